@@ -1,0 +1,12 @@
+pub mod Basics
+pub mod Takes
+pub mod Shows
+pub mod Columns
+pub mod Onward
+pub mod Writes
+pub mod Steps
+pub mod Chain
+pub mod Rows
+pub mod Pictures
+pub mod Prefix
+pub mod Granted

@@ -1,0 +1,11 @@
+pub mod Lists
+pub mod Positions
+pub mod Takes
+pub mod Shows
+pub mod Page
+pub mod Refusals
+pub mod Laws
+pub mod Bound
+pub mod Buffer
+pub mod Model
+pub mod Stands

@@ -1,0 +1,8 @@
+// How the cursor is shown.
+#[derive(Clone, Copy, PartialEq, Eq, Debug)]
+pub enum CursorFormat {
+    BlinkingBlock,
+    BlinkingUnderline,
+    Block,
+    Underline,
+}
