@@ -1,0 +1,4 @@
+pub mod Bounds
+pub mod Ports
+pub mod Model
+pub mod Answers

@@ -1,0 +1,22 @@
+-- What the library's console stands for.
+use Prim.Native.Nat.{ℕ}
+use Rattle.std.specs.declared.option.Option.{Option}
+use Rattle.std.specs.declared.option.Option.the-variants.{Some, None}
+use Rattle.video.specs.Composition.{Shape, shape-of}
+use Rattle.video.specs.declared.composition.Composition.{Composition}
+use Rattle.console.specs.declared.state.Console.{Console}
+use Rattle.console.specs.Ports.{State, Control, Core, bursts-of}
+
+abbrev pub shape-in : Option Composition → Option Shape
+shape-in None = None
+shape-in (Some c) = Some (shape-of c)
+
+abbrev pub state-of : Console → State
+state-of c =
+    record {
+        shape = shape-in (c .composition);
+        control = record { ve = c .ve; ie = c .ie; bursts = bursts-of (c .burst) };
+        cursor = c .cursor; pending = c .pending;
+        core = record { row = c .counters .row; line = c .counters .line; column = c .counters .column; blink = c .blink };
+        flags = c .flags; pen = c .pen
+    }
