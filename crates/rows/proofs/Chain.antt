@@ -25,7 +25,7 @@ use Rattle.rows.specs.Buffer.{Shown, Buffer, Reading, fresh, reads, puts, put,
 use Rattle.rows.specs.Page.{Row, blank, idle-below, taking-at, row, row-field, effects, screen-over, row-cell, window, windows}
 use Rattle.rows.specs.Stands.{Stands, Columns}
 use Rattle.rows.proofs.Takes.{taking, ready, outcome, mk, reads-full}
-use Rattle.rows.proofs.Shows.{shows, field-is, below-is}
+use Rattle.rows.proofs.Shows.{shows, field-is, below-is, hidden-is}
 
 last-append : {A : Type 0} (d : A) (xs ys : List A) → last d (xs ++ ys) ≡ last (last d xs) ys
 last-append d [] ys = refl
@@ -52,11 +52,11 @@ unfolding row
 taking-row c n page j h = cond-false _ _ _ h
 
 -- a row that takes nothing
-pub idle-step : (c : Shape) (n : ℕ) (page : List ℕ) (j place : ℕ) (over : Bool) (s : Shown) → Stands c n page j place over s → (blank c (suc j) || row c n page j .over) ≡ true
-    → Stands c n page (suc j) place over (fresh (c .h) over s .show) × Columns c n page j (fresh (c .h) over s .show)
+pub idle-step : (c : Shape) (n : ℕ) (page : List ℕ) (j place : ℕ) (idle over : Bool) (s : Shown) → Stands c n page j place over s → (blank c (suc j) || row c n page j .over) ≡ true
+    → Stands c n page (suc j) place over (fresh (c .h) idle over s .show) × Columns c n page j (fresh (c .h) idle over s .show)
       × (row c n page (suc j) .place ≡ place) × (row c n page (suc j) .taken ≡ 0)
-unfolding fresh effects screen-over
-idle-step c n page j place over s h i =
+unfolding fresh effects screen-over row-cell
+idle-step c n page j place idle over s h i =
     let e = idle-row c n page j i in
     (record {
         at = let z : place + 0 ≡ place = omega arith in (rw e (omega (arith, h .at)));
@@ -64,28 +64,22 @@ idle-step c n page j place over s h i =
         stop = rw e (h .stop);
         field = rw e (h .field ∙ ap (field-behind no-field) (sym (append-nil (effects c n page j))));
         below = rw e (h .below ∙ sym (or-false (screen-over c n page j)))
-    }, λ p. rw e refl, rw e (sym (h .at)), rw e refl)
+    }, λ p. rw (e, h .below) refl, rw e (sym (h .at)), rw e refl)
 
 -- what the page gives a row that takes
 read-row : (c : Shape) (n : ℕ) (bs : List ℕ) (s : Shown)
-    → reads (c .f) n (fresh (c .h) false s) bs
+    → reads (c .f) n (fresh (c .h) false false s) bs
       ≡ mk (enough n (c .h) (row-positions (c .f) (c .h) bs) bs) (0 + count n (c .h) (row-positions (c .f) (c .h) bs)) (some stops-all (row-positions (c .f) (c .h) bs))
-           (puts (fresh (c .h) false s .show) (row-positions (c .f) (c .h) bs)) (drop (count n (c .h) (row-positions (c .f) (c .h) bs)) bs)
+           (puts (fresh (c .h) false false s .show) (row-positions (c .f) (c .h) bs)) (drop (count n (c .h) (row-positions (c .f) (c .h) bs)) bs)
 unfolding fresh outcome ready
-read-row c n bs s = taking (c .f) n bs (c .h) 0 false (fresh (c .h) false s .show)
+read-row c n bs s = taking (c .f) n bs (c .h) 0 false (fresh (c .h) false false s .show)
 
 -- the bytes sufficed, or not
-record Got (c : Shape) (n : ℕ) (bs : List ℕ) (s : Shown) (r : Reading) : Type 0 where
-  suffice : enough n (c .h) (row-positions (c .f) (c .h) bs) bs ≡ true
-  many : r .taken ≡ count n (c .h) (row-positions (c .f) (c .h) bs)
-  stops : r .over ≡ some stops-all (row-positions (c .f) (c .h) bs)
-  show : r .show ≡ puts (fresh (c .h) false s .show) (row-positions (c .f) (c .h) bs)
-
-got : (c : Shape) (n : ℕ) (bs : List ℕ) (s : Shown) (r : Reading) (t : Bool) (a : ℕ) (o : Bool) (q : Shown) (l : List ℕ) → mk t a o q l ≡ Some r
+got : (r : Reading) (t : Bool) (a : ℕ) (o : Bool) (q : Shown) (l : List ℕ) → mk t a o q l ≡ Some r
     → (t ≡ true) × (r ≡ record { taken = a; over = o; show = q; left = l })
 unfolding mk
-got c n bs s r true a o q l e = (refl, cc)
-got c n bs s r false a o q l e = absurd (let z : _≡_ {A = ℕ} 0 1 = cc in omega arith)
+got r true a o q l e = (refl, cc)
+got r false a o q l e = absurd (let z : _≡_ {A = ℕ} 0 1 = cc in omega arith)
 
 none : (t : Bool) (a : ℕ) (o : Bool) (q : Shown) (l : List ℕ) → mk t a o q l ≡ None → t ≡ false
 unfolding mk
@@ -93,20 +87,23 @@ none true a o q l e = absurd (let z : _≡_ {A = ℕ} 0 1 = cc in omega arith)
 none false a o q l e = refl
 
 pub taking-step : (c : Shape) (n : ℕ) (page : List ℕ) (j place : ℕ) (s : Shown) (r : Reading) → Stands c n page j place false s → (blank c (suc j) || row c n page j .over) ≡ false
-    → reads (c .f) n (fresh (c .h) false s) (drop place page) ≡ Some r
+    → reads (c .f) n (fresh (c .h) false false s) (drop place page) ≡ Some r
     → Stands c n page (suc j) (place + r .taken) (r .over) (r .show) × Columns c n page j (r .show)
       × (row c n page (suc j) .place ≡ place) × (row c n page (suc j) .taken ≡ r .taken)
-unfolding effects screen-over taking-at fresh
+unfolding effects screen-over row-cell taking-at fresh
 taking-step c n page j place s r h i e =
     let bs : List ℕ = drop place page in
     let ps : List Position = row-positions (c .f) (c .h) bs in
-    let s₀ : Shown = fresh (c .h) false s .show in
-    let g = got c n bs s r _ _ _ _ _ (sym (read-row c n bs s) ∙ e) in
+    let s₀ : Shown = fresh (c .h) false false s .show in
+    let g = got r _ _ _ _ _ (sym (read-row c n bs s) ∙ e) in
     let many : r .taken ≡ count n (c .h) ps = ap (λ (x : Reading). x .taken) (g .1) ∙ (omega arith) in
     let show : r .show ≡ puts s₀ ps = ap (λ (x : Reading). x .show) (g .1) in
     let is : row c n page (suc j) ≡ record { place = place; positions = ps; taken = count n (c .h) ps; whole = row c n page j .whole && enough n (c .h) ps bs; over = some stops-all ps } =
         taking-row c n page j i ∙ ap (taking-at c n page (row c n page j .whole)) (sym (h .at)) in
-    let shown : Columns c n page j (r .show) = λ p. rw (is, show) (shows s₀ ps p refl refl refl refl ∙ ap (λ (f : Field). cell f ps p) (h .field)) in
+    let hides : r .show .hidden ≡ screen-over c n page j = ap (λ (x : Shown). x .hidden) show ∙ hidden-is s₀ ps ∙ h .below in
+    let cells : (p : ℕ) → cell-of (r .show .ring) (r .show .columns) p ≡ cell (row-field c n page j) ps p =
+        λ p. rw show (shows s₀ ps p refl refl refl refl ∙ ap (λ (f : Field). cell f ps p) (h .field)) in
+    let shown : Columns c n page j (r .show) = λ p. rw (hides, cells p, is) refl in
     (record {
         at = rw is (omega arith);
         whole = rw (is, h .whole, g .0) refl;
@@ -115,32 +112,58 @@ taking-step c n page j place s r h i e =
         below = rw (is, show) (below-is s₀ ps ∙ ap (λ (b : Bool). b || some ends-screen ps) (h .below))
     }, shown, rw is refl, rw is (sym many))
 
--- a row of the page that is not blank
-pub row-step : (c : Shape) (n : ℕ) (page : List ℕ) (j place : ℕ) (over : Bool) (s : Shown) (r : Reading) → Stands c n page j place over s → blank c (suc j) ≡ false
-    → reads (c .f) n (fresh (c .h) over s) (drop place page) ≡ Some r
+-- a row that takes nothing is read at once
+read-idle : (c : Shape) (n : ℕ) (bs : List ℕ) (idle over : Bool) (s : Shown) (r : Reading) → (idle || over) ≡ true → reads (c .f) n (fresh (c .h) idle over s) bs ≡ Some r
+    → r ≡ record { taken = 0; over = over; show = fresh (c .h) idle over s .show; left = bs }
+unfolding fresh full
+read-idle c n bs idle over s r t e = let w = sym (reads-full (c .f) n (fresh (c .h) idle over s) bs (rw t refl)) ∙ e in cc
+
+never-none : (c : Shape) (n place : ℕ) (idle over : Bool) (s : Shown) (page : List ℕ) → (idle || over) ≡ true → reads (c .f) n (fresh (c .h) idle over s) (drop place page) ≡ None → ⊥
+unfolding fresh full
+never-none c n place idle over s page t e =
+    let w = sym (reads-full (c .f) n (fresh (c .h) idle over s) (drop place page) (rw t refl)) ∙ e in
+    let z : _≡_ {A = ℕ} 0 1 = cc in omega arith
+
+idles : (c : Shape) (n : ℕ) (page : List ℕ) (j place : ℕ) (idle over : Bool) (s : Shown) (r : Reading) → Stands c n page j place over s
+    → (blank c (suc j) || row c n page j .over) ≡ true → (idle || over) ≡ true → reads (c .f) n (fresh (c .h) idle over s) (drop place page) ≡ Some r
     → Stands c n page (suc j) (place + r .taken) (r .over) (r .show) × Columns c n page j (r .show)
       × (row c n page (suc j) .place ≡ place) × (row c n page (suc j) .taken ≡ r .taken)
-unfolding fresh full
-row-step c n page j place true s r h b e =
-    let o : (blank c (suc j) || row c n page j .over) ≡ true = rw (b, ← h .stop) refl in
-    let i = idle-step c n page j place true s h o in
-    let q : r ≡ record { taken = 0; over = true; show = fresh (c .h) true s .show; left = drop place page } =
-        (let w = sym (reads-full (c .f) n (fresh (c .h) true s) (drop place page) refl) ∙ e in cc) in
+idles c n page j place idle over s r h o t e =
+    let i = idle-step c n page j place idle over s h o in
+    let q = read-idle c n (drop place page) idle over s r t e in
     let z : place + 0 ≡ place = omega arith in
     rw (q, z) i
-row-step c n page j place false s r h b e = taking-step c n page j place s r h (rw (b, ← h .stop) refl) e
 
-pub row-short : (c : Shape) (n : ℕ) (page : List ℕ) (j place : ℕ) (over : Bool) (s : Shown) → Stands c n page j place over s → blank c (suc j) ≡ false
-    → reads (c .f) n (fresh (c .h) over s) (drop place page) ≡ None
+-- a row of the page, which is idle where it is blank
+pub row-step : (c : Shape) (n : ℕ) (page : List ℕ) (j place : ℕ) (idle over : Bool) (s : Shown) (r : Reading) → Stands c n page j place over s → idle ≡ blank c (suc j)
+    → reads (c .f) n (fresh (c .h) idle over s) (drop place page) ≡ Some r
+    → Stands c n page (suc j) (place + r .taken) (r .over) (r .show) × Columns c n page j (r .show)
+      × (row c n page (suc j) .place ≡ place) × (row c n page (suc j) .taken ≡ r .taken)
+row-step c n page j place true over s r h b e = idles c n page j place true over s r h (rw (← b) refl) refl e
+row-step c n page j place false true s r h b e = idles c n page j place false true s r h (rw (← b, ← h .stop) refl) refl e
+row-step c n page j place false false s r h b e = taking-step c n page j place s r h (rw (← b, ← h .stop) refl) e
+
+pub row-short : (c : Shape) (n : ℕ) (page : List ℕ) (j place : ℕ) (idle over : Bool) (s : Shown) → Stands c n page j place over s → idle ≡ blank c (suc j)
+    → reads (c .f) n (fresh (c .h) idle over s) (drop place page) ≡ None
     → row c n page (suc j) .whole ≡ false
-unfolding fresh full taking-at
-row-short c n page j place true s h b e =
-    absurd (let w = sym (reads-full (c .f) n (fresh (c .h) true s) (drop place page) refl) ∙ e in let z : _≡_ {A = ℕ} 0 1 = cc in omega arith)
-row-short c n page j place false s h b e =
+unfolding taking-at
+row-short c n page j place true over s h b e = absurd (never-none c n place true over s page refl e)
+row-short c n page j place false true s h b e = absurd (never-none c n place false true s page refl e)
+row-short c n page j place false false s h b e =
     let bs : List ℕ = drop place page in
     let t = none _ _ _ _ _ (sym (read-row c n bs s) ∙ e) in
-    let is = taking-row c n page j (rw (b, ← h .stop) refl) ∙ ap (taking-at c n page (row c n page j .whole)) (sym (h .at)) in
+    let is = taking-row c n page j (rw (← b, ← h .stop) refl) ∙ ap (taking-at c n page (row c n page j .whole)) (sym (h .at)) in
     rw (is, h .whole, t) refl
+
+-- what is left behind a row are the bytes behind those that it took
+pub row-left : (c : Shape) (n : ℕ) (bs : List ℕ) (idle over : Bool) (s : Shown) (r : Reading) → reads (c .f) n (fresh (c .h) idle over s) bs ≡ Some r → r .left ≡ drop (r .taken) bs
+row-left c n bs true over s r e = let q = read-idle c n bs true over s r refl e in rw q refl
+row-left c n bs false true s r e = let q = read-idle c n bs false true s r refl e in rw q refl
+row-left c n bs false false s r e =
+    let g = got r _ _ _ _ _ (sym (read-row c n bs s) ∙ e) in
+    let m : ℕ = count n (c .h) (row-positions (c .f) (c .h) bs) in
+    let z : 0 + m ≡ m = omega arith in
+    rw (g .1, z) refl
 
 -- once the page has come to its end, no row below is whole
 pub never-whole : (c : Shape) (n : ℕ) (page : List ℕ) (j d : ℕ) → row c n page j .whole ≡ false → row c n page (d + j) .whole ≡ false

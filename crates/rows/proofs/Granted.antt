@@ -39,11 +39,11 @@ pub empty-rows : (c : Shape) (n : ℕ) (page : List ℕ) → Empty-rows c n page
 unfolding window
 empty-rows c n page j t = rw (idle-row c n page j t) refl
 
-pub windowed : (c : Shape) (n : ℕ) (page : List ℕ) (j place : ℕ) (b : RowBuffer) (hidden : Bool) → 1 ≤ j
-    → window-refusal c n page j ≡ ends-refusal c n page j → row c n page (suc (j - 1)) .whole ≡ true → Finds c n page (j - 1) place b hidden
+pub windowed : (c : Shape) (n : ℕ) (page : List ℕ) (j place : ℕ) (b : RowBuffer) → 1 ≤ j
+    → window-refusal c n page j ≡ ends-refusal c n page j → row c n page (suc (j - 1)) .whole ≡ true → Finds c n page (j - 1) place b
     → Windowed c n page j place (take (b .take .taken) (drop place page))
 unfolding window
-windowed c n page j place b hidden p e w f =
+windowed c n page j place b p e w f =
     let z : suc (j - 1) ≡ j = omega arith in
     let w₂ : row c n page j .whole ≡ true = ap (λ (i : ℕ). row c n page i .whole) (sym z) ∙ w in
     let at : row c n page j .place ≡ place = ap (λ (i : ℕ). row c n page i .place) (sym z) ∙ f .at in

@@ -12,33 +12,23 @@ use Rattle.std.specs.declared.option.Option.{Option}
 use Rattle.std.specs.declared.option.Option.the-variants.{Some, None}
 use Rattle.video.specs.Composition.{Shape}
 use Rattle.rows.specs.declared.state.RowBuffer.{RowBuffer}
-use Rattle.rows.specs.Buffer.{Shown, Buffer, Reading, fresh, reads, cell-of}
+use Rattle.rows.specs.Buffer.{Shown, Buffer, Reading, fresh, reads}
 use Rattle.rows.specs.Model.{buffer-of, shown-of, read-of}
 use Rattle.rows.specs.Page.{blank, row}
 use Rattle.rows.specs.Stands.{Stands, Columns, Behind, Next, Finds}
-use Rattle.rows.proofs.Chain.{idle-step, row-step, row-short, never-whole}
+use Rattle.rows.proofs.Chain.{row-step, row-short, never-whole}
 
-pub next-blank : (c : Shape) (n : ℕ) (page : List ℕ) (j at : ℕ) (a b : RowBuffer) → Behind c n page j at a → blank c (suc j) ≡ true
-    → buffer-of b ≡ fresh (c .h) (a .take .over) (shown-of (a .show)) → Next c n page j at (Some b)
+-- the row below one, as a row buffer read it
+pub next-read : (c : Shape) (n : ℕ) (page : List ℕ) (j at : ℕ) (idle : Bool) (a s : RowBuffer) (r : Option RowBuffer) → Behind c n page j at a → idle ≡ blank c (suc j)
+    → buffer-of s ≡ fresh (c .h) idle (a .take .over) (shown-of (a .show)) → read-of r (drop at page) ≡ reads (c .f) n (buffer-of s) (drop at page) → Next c n page j at r
+next-read c n page j at idle a s None h b e q =
+    row-short c n page j at idle (a .take .over) (shown-of (a .show)) h b (ap (λ (x : Buffer). reads (c .f) n x (drop at page)) (sym e) ∙ sym q)
+next-read c n page j at idle a s (Some x) h b e q =
+    row-step c n page j at idle (a .take .over) (shown-of (a .show)) _ h b (ap (λ (x : Buffer). reads (c .f) n x (drop at page)) (sym e) ∙ sym q)
+
+pub started : (b : RowBuffer) (h : ℕ) (idle over : Bool) (s : Shown) → buffer-of b ≡ fresh h idle over s → b .take .taken ≡ 0
 unfolding fresh
-next-blank c n page j at a b h t e =
-    let i = idle-step c n page j at (a .take .over) (shown-of (a .show)) h (rw t refl) in
-    let show : shown-of (b .show) ≡ fresh (c .h) (a .take .over) (shown-of (a .show)) .show = ap (λ (x : Buffer). x .show) e in
-    let over : b .take .over ≡ a .take .over = ap (λ (x : Buffer). x .take .over) e in
-    let none : b .take .taken ≡ 0 = ap (λ (x : Buffer). x .take .taken) e in
-    let z : at + 0 ≡ at = omega arith in
-    (rw (none, show, over, z) (i .0), λ p. ap (λ (x : Shown). cell-of (x .ring) (x .columns) p) show ∙ i .1 p, i .2, i .3 ∙ sym none)
-
-pub next-read : (c : Shape) (n : ℕ) (page : List ℕ) (j at : ℕ) (a s : RowBuffer) (r : Option RowBuffer) → Behind c n page j at a → blank c (suc j) ≡ false
-    → buffer-of s ≡ fresh (c .h) (a .take .over) (shown-of (a .show)) → read-of r (drop at page) ≡ reads (c .f) n (buffer-of s) (drop at page) → Next c n page j at r
-next-read c n page j at a s None h b e q =
-    row-short c n page j at (a .take .over) (shown-of (a .show)) h b (ap (λ (x : Buffer). reads (c .f) n x (drop at page)) (sym e) ∙ sym q)
-next-read c n page j at a s (Some x) h b e q =
-    row-step c n page j at (a .take .over) (shown-of (a .show)) _ h b (ap (λ (x : Buffer). reads (c .f) n x (drop at page)) (sym e) ∙ sym q)
-
-pub started : (b : RowBuffer) (h : ℕ) (over : Bool) (s : Shown) → buffer-of b ≡ fresh h over s → b .take .taken ≡ 0
-unfolding fresh
-started b h over s e = ap (λ (x : Buffer). x .take .taken) e
+started b h idle over s e = ap (λ (x : Buffer). x .take .taken) e
 
 -- a page that ends in row i + 1 has no whole row from there on
 pub ends-early : (c : Shape) (n : ℕ) (page : List ℕ) (i j : ℕ) → i < j → row c n page (suc i) .whole ≡ false → row c n page (suc j) .whole ≡ false

@@ -158,6 +158,11 @@ below-is s (Graphic g ∷ ps) = below-is (put s (Graphic g)) ps
 below-is s (Control x ∷ ps) = below-is (put s (Control x)) ps ∙ or-move (screen-code x) (s .below) (some ends-screen ps)
 below-is s (Unused ∷ ps) = below-is (put s Unused) ps
 
+pub hidden-is : (s : Shown) (ps : List Position) → puts s ps .hidden ≡ s .hidden
+unfolding puts put
+hidden-is s [] = refl
+hidden-is s (p ∷ ps) = hidden-is (put s p) ps
+
 look-same : (f : Field) (k : ℕ) (m m₂ : ℕ → ℕ) (ps : List Position) (p : ℕ) → ((i : ℕ) → m i ≡ m₂ i) → look f k m ps p ≡ look f k m₂ ps p
 look-same f k m m₂ ps p h = let e : m ≡ m₂ = fun-ext h in rw e refl
 

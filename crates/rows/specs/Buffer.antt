@@ -59,7 +59,7 @@ took f n t b =
     }
 
 -- what a row will show: its columns, its field character memory and how many characters went into it, the field in force,
--- an F0 to F3 in this row, an F2 or F3 in it or above it
+-- an F0 to F3 in this row, an F2 or F3 in it or above it, an F2 or F3 above it
 pub record Shown : Type 0 where
   pub columns : List Column
   pub ring : List ℕ
@@ -67,6 +67,7 @@ pub record Shown : Type 0 where
   pub field : Field
   pub ended : Bool
   pub below : Bool
+  pub hidden : Bool
 
 -- the field behind a position
 abbrev pub turned : Field → Position → Field
@@ -121,7 +122,8 @@ put s p =
         pairs = counted (s .pairs) p;
         field = in-force (s .ended) (s .field) p;
         ended = ends p || s .ended;
-        below = ends-screen p || s .below
+        below = ends-screen p || s .below;
+        hidden = s .hidden
     }
 
 unfoldable pub puts : Shown → List Position → Shown
@@ -135,12 +137,12 @@ pub record Buffer : Type 0 where
 unfoldable pub eat : (f : Bool) (n : ℕ) → Buffer → ℕ → Buffer
 eat f n b x = record { take = took f n (b .take) x; show = puts (b .show) (fills f (b .take .phase) x) }
 
--- a buffer for a row below one that left `over` and `above`
-unfoldable pub fresh : (h : ℕ) (over : Bool) (above : Shown) → Buffer
-fresh h over above =
+-- a buffer for a row below one that left `over` and `above`; an idle row takes nothing
+unfoldable pub fresh : (h : ℕ) (idle over : Bool) (above : Shown) → Buffer
+fresh h idle over above =
     record {
-        take = record { phase = cond over Done Ready; room = h; taken = 0; over = over };
-        show = record { columns = []; ring = replicate 16 0; pairs = 0; field = above .field; ended = false; below = above .below }
+        take = record { phase = cond (idle || over) Done Ready; room = h; taken = 0; over = over };
+        show = record { columns = []; ring = replicate 16 0; pairs = 0; field = above .field; ended = false; below = above .below; hidden = above .below }
     }
 
 -- a row read to its end: how many bytes it took, what it leaves, the bytes behind it; none where the bytes do not suffice
@@ -167,3 +169,7 @@ abbrev pub cell-of : List ℕ → List Column → ℕ → Cell
 cell-of r [] p = Dark
 cell-of r (s ∷ ss) zero = resolved r s
 cell-of r (s ∷ ss) (suc p) = cell-of r ss p
+
+-- what column p shows: nothing below an F2 or F3
+abbrev pub column-cell : Shown → ℕ → Cell
+column-cell s p = cond (s .hidden) Dark (cell-of (s .ring) (s .columns) p)

@@ -14,7 +14,7 @@ abbrev pub taken-of : Taking → Taken
 taken-of t = record { phase = t .phase; room = t .room; taken = t .taken; over = t .over }
 
 abbrev pub shown-of : Showing → Shown
-shown-of s = record { columns = take (s .len) (s .columns); ring = s .ring; pairs = s .pairs; field = s .field; ended = s .ended; below = s .below }
+shown-of s = record { columns = take (s .len) (s .columns); ring = s .ring; pairs = s .pairs; field = s .field; ended = s .ended; below = s .below; hidden = s .hidden }
 
 abbrev pub buffer-of : RowBuffer → Buffer
 buffer-of b = record { take = taken-of (b .take); show = shown-of (b .show) }

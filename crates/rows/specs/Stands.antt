@@ -9,10 +9,9 @@ use Rattle.std.specs.declared.option.Option.the-variants.{Some, None}
 use Rattle.video.specs.Composition.{Shape}
 use Rattle.rows.specs.declared.state.RowBuffer.{RowBuffer}
 use Rattle.rows.specs.declared.found.Found.{Found}
-use Rattle.rows.specs.Shows.{cell}
-use Rattle.rows.specs.Buffer.{Shown, cell-of}
+use Rattle.rows.specs.Buffer.{Shown, column-cell}
 use Rattle.rows.specs.Model.{shown-of}
-use Rattle.rows.specs.Page.{row, row-field, screen-over}
+use Rattle.rows.specs.Page.{row, row-field, screen-over, row-cell}
 
 -- what a row that was read leaves: where the next begins, an F3 so far, and what it shows
 pub record Stands (c : Shape) (n : ℕ) (page : List ℕ) (j place : ℕ) (over : Bool) (s : Shown) : Type 0 where
@@ -24,7 +23,7 @@ pub record Stands (c : Shape) (n : ℕ) (page : List ℕ) (j place : ℕ) (over 
 
 -- and its columns
 abbrev pub Columns : Shape → (n : ℕ) → List ℕ → (j : ℕ) → Shown → Type 0
-Columns c n page j s = (p : ℕ) → cell-of (s .ring) (s .columns) p ≡ cell (row-field c n page j) (row c n page (suc j) .positions) p
+Columns c n page j s = (p : ℕ) → column-cell s p ≡ row-cell c n page (suc j) p
 
 -- the same, of a row buffer
 abbrev pub Behind : Shape → (n : ℕ) → List ℕ → (j place : ℕ) → RowBuffer → Type 0
@@ -38,13 +37,12 @@ Next c n page j at (Some b) =
     × (row c n page (suc j) .place ≡ at) × (row c n page (suc j) .taken ≡ b .take .taken)
 
 -- row j + 1 was found
-pub record Finds (c : Shape) (n : ℕ) (page : List ℕ) (j place : ℕ) (b : RowBuffer) (hidden : Bool) : Type 0 where
+pub record Finds (c : Shape) (n : ℕ) (page : List ℕ) (j place : ℕ) (b : RowBuffer) : Type 0 where
   pub at : row c n page (suc j) .place ≡ place
   pub taken : row c n page (suc j) .taken ≡ b .take .taken
   pub within : place + b .take .taken ≤ length page
-  pub hides : hidden ≡ screen-over c n page j
   pub columns : Columns c n page j (shown-of (b .show))
 
 abbrev pub Located : Shape → (n : ℕ) → List ℕ → (j : ℕ) → Option Found → Type 0
 Located c n page j None = row c n page (suc j) .whole ≡ false
-Located c n page j (Some x) = (row c n page (suc j) .whole ≡ true) × Finds c n page j (x .place) (x .row) (x .hidden)
+Located c n page j (Some x) = (row c n page (suc j) .whole ≡ true) × Finds c n page j (x .place) (x .row)

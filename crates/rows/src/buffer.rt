@@ -1,7 +1,7 @@
 // A row buffer, fed a byte at a time.
 ghost use Prim.Native.Nat.{ℕ, _+_, _<_, _≤_};
 ghost use mathlib.Core.Path.{_≡_};
-ghost use mathlib.Core.Bool.{Bool, true, false, cond};
+ghost use mathlib.Core.Bool.{Bool, true, false, cond, _||_};
 ghost use lib.ListN.{length};
 ghost use Rattle.video.specs.Fields.{no-field};
 ghost use Rattle.rows.specs.Buffer.{full, eat, fresh, reads};
@@ -15,10 +15,10 @@ use crate::state::Taking;
 use video::cell::Cell;
 use video::field::Field;
 
-fn opened(over: bool) -> Phase
-    ensures { λ r. ⌜ r ≡ cond over Done Ready ⌝ }
+fn opened(idle: bool, over: bool) -> Phase
+    ensures { λ r. ⌜ r ≡ cond (idle || over) Done Ready ⌝ }
 {
-    if over { Phase::Done } else { Phase::Ready }
+    if idle | over { Phase::Done } else { Phase::Ready }
 }
 
 impl RowBuffer {
@@ -38,16 +38,17 @@ impl RowBuffer {
                 field: Field::none(),
                 ended: false,
                 below: false,
+                hidden: false,
             },
         }
     }
 
-    // A buffer for a row of h positions below one that left `over` and `above`.
-    pub(crate) fn fresh(h: u8, over: bool, above: &Showing) -> RowBuffer
+    // A buffer for a row of h positions below one that left `over` and `above`; an idle row takes nothing.
+    pub(crate) fn fresh(h: u8, idle: bool, over: bool, above: &Showing) -> RowBuffer
         requires { ⌜ h ≤ 80 ⌝ }
-        ensures { λ r. ⌜ buffer-of r ≡ fresh h over (shown-of (now (above .entry))) ⌝ }
+        ensures { λ r. ⌜ buffer-of r ≡ fresh h idle over (shown-of (now (above .entry))) ⌝ }
     {
-        let phase = opened(over);
+        let phase = opened(idle, over);
         RowBuffer {
             take: Taking { phase, room: h, taken: 0, over },
             show: Showing {
@@ -58,6 +59,7 @@ impl RowBuffer {
                 field: above.field,
                 ended: false,
                 below: above.below,
+                hidden: above.below,
             },
         }
     }

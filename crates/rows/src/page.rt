@@ -28,10 +28,7 @@ fn next_row(composition: &Composition, n: u8, page: &[u8], at: usize, above: Row
         → Next (shape-of (now (composition .entry))) n (now (page .entry)) j at r) ⌝ }
     ensures fits { λ r. ⌜ at + bytes r ≤ length (now (page .entry)) ⌝ }
 {
-    let start = RowBuffer::fresh(composition.columns, above.take.over, &above.show);
-    if idle {
-        return Some(start);
-    }
+    let start = RowBuffer::fresh(composition.columns, idle, above.take.over, &above.show);
     fill(start, composition.opaque, n, &page[at..])
 }
 
@@ -55,7 +52,7 @@ pub(crate) fn locate(composition: &Composition, n: u8, page: &[u8], j: u8) -> Op
     let idle = blank(composition, j + 1);
     match next_row(composition, n, page, at, above, idle) {
         None => None,
-        Some(row) => Some(Found { place: at, row, hidden: above.show.below }),
+        Some(row) => Some(Found { place: at, row }),
     }
 }
 
@@ -71,14 +68,11 @@ fn cursor_in(cursor: Option<(u8, u8)>, j: u8, p: u8) -> bool
 
 // The picture bits of clock p of a line of row j + 1, which was found.
 fn picture(composition: &Composition, cursor: Option<(u8, u8)>, blink: u8, found: &Found, j: u8, line: u8, p: u8) -> u32
-    ensures { λ r. ⌜ ((n : ℕ) (page : List ℕ) → Finds (shape-of (now (composition .entry))) n page j (now (found .entry) .place) (now (found .entry) .row) (now (found .entry) .hidden)
+    ensures { λ r. ⌜ ((n : ℕ) (page : List ℕ) → Finds (shape-of (now (composition .entry))) n page j (now (found .entry) .place) (now (found .entry) .row)
         → r ≡ picture (shape-of (now (composition .entry))) n page cursor blink (suc j) line p) ⌝ }
 {
     if p >= composition.columns {
         return dark_word(composition.line_count(line), true, false);
-    }
-    if found.hidden {
-        return dark_word(composition.line_count(line), false, false);
     }
     let here = cursor_in(cursor, j, p);
     found.row.show.cell(p).word(composition, line, blink, here)
@@ -88,7 +82,7 @@ fn picture(composition: &Composition, cursor: Option<(u8, u8)>, blink: u8, found
 fn write_line(composition: &Composition, cursor: Option<(u8, u8)>, blink: u8, found: &Found, j: u8, line: u8, out: &mut [u32], from: usize)
     requires { ⌜ from + width (shape-of (now composition)) ≤ length (now out) ⌝ }
     ensures size { λ _. ⌜ length (now (out .exit)) ≡ length (now (out .entry)) ⌝ }
-    ensures words { λ _. ⌜ ((n : ℕ) (page : List ℕ) → Finds (shape-of (now (composition .entry))) n page j (now (found .entry) .place) (now (found .entry) .row) (now (found .entry) .hidden)
+    ensures words { λ _. ⌜ ((n : ℕ) (page : List ℕ) → Finds (shape-of (now (composition .entry))) n page j (now (found .entry) .place) (now (found .entry) .row)
         → (p : ℕ) → p < width (shape-of (now (composition .entry))) → getD (now (out .exit)) (from + p) 0 ≡ picture (shape-of (now (composition .entry))) n page cursor blink (suc j) line p) ⌝ }
     ensures rest { λ _. ⌜ ((i : ℕ) → (i < from) ⊎ (from + width (shape-of (now (composition .entry))) ≤ i) → getD (now (out .exit)) i 0 ≡ getD (now (out .entry)) i 0) ⌝ }
 {
@@ -101,7 +95,7 @@ fn write_line(composition: &Composition, cursor: Option<(u8, u8)>, blink: u8, fo
 pub(crate) fn write_lines(composition: &Composition, cursor: Option<(u8, u8)>, blink: u8, found: &Found, j: u8, out: &mut [u32])
     requires { ⌜ now composition .lines * width (shape-of (now composition)) ≤ length (now out) ⌝ }
     ensures size { λ _. ⌜ length (now (out .exit)) ≡ length (now (out .entry)) ⌝ }
-    ensures words { λ _. ⌜ ((n : ℕ) (page : List ℕ) → Finds (shape-of (now (composition .entry))) n page j (now (found .entry) .place) (now (found .entry) .row) (now (found .entry) .hidden)
+    ensures words { λ _. ⌜ ((n : ℕ) (page : List ℕ) → Finds (shape-of (now (composition .entry))) n page j (now (found .entry) .place) (now (found .entry) .row)
         → (line p : ℕ) → line < now (composition .entry) .lines → p < width (shape-of (now (composition .entry)))
         → getD (now (out .exit)) (line * width (shape-of (now (composition .entry))) + p) 0 ≡ picture (shape-of (now (composition .entry))) n page cursor blink (suc j) line p) ⌝ }
     ensures rest { λ _. ⌜ ((i : ℕ) → now (composition .entry) .lines * width (shape-of (now (composition .entry))) ≤ i → getD (now (out .exit)) i 0 ≡ getD (now (out .entry)) i 0) ⌝ }

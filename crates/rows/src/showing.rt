@@ -4,7 +4,7 @@ ghost use mathlib.Core.Path.{_≡_};
 ghost use mathlib.Core.Bool.{cond};
 ghost use Rattle.video.specs.declared.cell.Cell.the-variants.{Dark};
 ghost use Rattle.rows.specs.Positions.{ends, ends-screen};
-ghost use Rattle.rows.specs.Buffer.{turned, in-force, column, put, resolved, cell-of};
+ghost use Rattle.rows.specs.Buffer.{turned, in-force, column, put, resolved, column-cell};
 ghost use Rattle.rows.specs.Model.{shown-of};
 ghost use Rattle.rows.specs.declared.kinds.Column.the-variants.{Fixed};
 use crate::kinds::Column;
@@ -84,8 +84,11 @@ impl Showing {
 
     // What column number p shows.
     pub fn cell(&self, p: u8) -> Cell
-        ensures { λ r. ⌜ r ≡ cell-of (now (self .entry) .ring) (shown-of (now (self .entry)) .columns) p ⌝ }
+        ensures { λ r. ⌜ r ≡ column-cell (shown-of (now (self .entry))) p ⌝ }
     {
+        if self.hidden {
+            return Cell::Dark;
+        }
         let column = if p < self.len { self.columns[p as usize] } else { Column::Fixed(Cell::Dark) };
         resolved(&self.ring, column)
     }

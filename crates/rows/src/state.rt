@@ -34,6 +34,8 @@ pub struct Showing {
     pub ended: bool,
     // an F2 or F3 in this row or above it
     pub below: bool,
+    // an F2 or F3 above it
+    pub hidden: bool,
     ghost fits: { len ≤ 80 },
     ghost size: { length columns ≡ 80 },
     ghost memory: { length ring ≡ 16 },

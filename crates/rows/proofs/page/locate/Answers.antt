@@ -39,7 +39,7 @@ returns-in-Some-next-row c =
     let one : j + 1 ≡ suc j = omega arith in
     let h : Behind (shape-of (c .args .composition .now)) (c .args .n) (c .args .page .now) j (c .loop-i .at) (c .loop-i .above) = rw (← i) (c .loop-i .inv .0) in
     let g = c .in-Some-next-row .ensures tt .row j h (c .blank-idle-2 .ensures ∙ ap (blank (shape-of (c .args .composition .now))) one) in
-    (g .0 .whole, record { at = g .2; taken = g .3; within = c .in-Some-next-row .ensures tt .fits; hides = h .below; columns = g .1 })
+    (g .0 .whole, record { at = g .2; taken = g .3; within = c .in-Some-next-row .ensures tt .fits; columns = g .1 })
 
 pub returns-in-None-next-row : need.returns-in-None-next-row
 returns-in-None-next-row c =
