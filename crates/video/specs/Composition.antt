@@ -41,8 +41,8 @@ abbrev pub composed : (first second third fourth : ℕ) → Shape
 composed p q s t =
     record {
         spaced = leb 128 p; h = p % 128 + 1;
-        v = q / 64 + 1; r = q % 64 + 1;
-        u = s / 16; l = s % 16 + 1;
+        v = q / 64 % 4 + 1; r = q % 64 + 1;
+        u = s / 16 % 16; l = s % 16 + 1;
         offset = leb 128 t; f = eqb (t / 64 % 2) 1; cursor = cursor-format (t / 16 % 4); z = 2 * (t % 16) + 2
     }
 

@@ -85,7 +85,7 @@ bit b = cond b 1 0
 -- the word of a column: bits 0 to 6 CC, 8 to 11 the line count, then LA0, LA1, LTEN, RVV, VSP, HGLT, GPA0, GPA1
 abbrev pub signals-word : (count : ℕ) → Signals → ℕ
 signals-word n x =
-    x .cc + 0x100 * n + 0x1000 * bit (x .la0) + 0x2000 * bit (x .la1) + 0x4000 * bit (x .lten) + 0x8000 * bit (x .rvv)
+    x .cc % 128 + 0x100 * n + 0x1000 * bit (x .la0) + 0x2000 * bit (x .la1) + 0x4000 * bit (x .lten) + 0x8000 * bit (x .rvv)
     + 0x10000 * bit (x .vsp) + 0x20000 * bit (x .hglt) + 0x40000 * bit (x .gpa0) + 0x80000 * bit (x .gpa1)
 
 -- dark: VSP, and every other bit off but the line count, HRTC (bit 20) and VRTC (bit 21)

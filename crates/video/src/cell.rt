@@ -124,7 +124,7 @@ fn bit(b: bool) -> u32
 fn signals_word(count: u8, x: Signals) -> u32
     ensures { λ r. ⌜ r ≡ signals-word count x ⌝ }
 {
-    x.cc as u32
+    (x.cc % 128) as u32
         + 0x100 * count as u32
         + 0x1000 * bit(x.la0)
         + 0x2000 * bit(x.la1)

@@ -3,18 +3,21 @@ use Prim.Native.Nat.{ℕ, _+_, _*_, _/_, _%_}
 use mathlib.Core.Bool.{Bool, true, false, cond, not, _&&_, _||_}
 use mathlib.Core.List.{List, [], _∷_}
 use lib.Dec.{leb, eqb}
-use lib.ListN.{getD}
+use lib.ListN.{getD, replicate}
 use Rattle.std.specs.declared.option.Option.{Option}
 use Rattle.std.specs.declared.option.Option.the-variants.{Some, None}
 use Rattle.refusal.specs.declared.Refusal.{Refusal}
 use Rattle.refusal.specs.declared.Refusal.the-variants.{UnknownCommand, TooManyColumns}
 use Rattle.video.specs.Composition.{Shape, allowed, composed}
 use Rattle.video.specs.Picture.{bit}
+use Rattle.video.specs.Fields.{no-field}
 use Rattle.rows.specs.Takes.{burst-bytes}
-use Rattle.console.specs.declared.burst.Burst.{Burst}
-use Rattle.console.specs.declared.state.Flags.{Flags}
-use Rattle.console.specs.declared.pending.Pending.{Pending}
-use Rattle.console.specs.declared.pending.Pending.the-variants.{Nothing, Reset1, Reset2, Reset3, Reset4, CursorColumn, CursorRow, PenColumn, PenRow}
+use Rattle.rows.specs.Buffer.{Buffer, Shown}
+use Rattle.rows.specs.declared.kinds.Phase.the-variants.{Done}
+use Rattle.frame.specs.declared.burst.Burst.{Burst}
+use Rattle.frame.specs.declared.flags.Flags.{Flags}
+use Rattle.frame.specs.declared.pending.Pending.{Pending}
+use Rattle.frame.specs.declared.pending.Pending.the-variants.{Nothing, Reset1, Reset2, Reset3, Reset4, CursorColumn, CursorRow, PenColumn, PenRow}
 
 -- N, the bytes of a burst, and D, the clocks between two bursts
 pub record Bursts : Type 0 where
@@ -30,14 +33,21 @@ pub record Control : Type 0 where
   pub ie : Bool
   pub bursts : Bursts
 
--- where the next clock stands: row time, line, clock of the line; and the blink count
+-- what the clock moves: row time, line and clock of the line; the blink count; whether the frame is armed, and whether it went dark;
+-- the bursts of this frame, the clocks before a byte is asked for again; the row being filled and the row being shown
 pub record Core : Type 0 where
   pub row : ℕ
   pub line : ℕ
   pub column : ℕ
   pub blink : ℕ
+  pub armed : Bool
+  pub dark : Bool
+  pub bursts : Bursts
+  pub gap : ℕ
+  pub fill : Buffer
+  pub shown : Shown
 
--- a console: composition, control, cursor, what the ports wait for, counters, flags, light pen
+-- a console: composition, control, cursor, what the ports wait for, what the clock moves, flags, light pen
 pub record State : Type 0 where
   pub shape : Option Shape
   pub control : Control
@@ -47,6 +57,13 @@ pub record State : Type 0 where
   pub flags : Flags
   pub pen : ℕ × ℕ
 
+-- a row buffer that holds nothing, above the first row
+abbrev pub nothing : Shown
+nothing = record { columns = []; ring = replicate 16 0; pairs = 0; field = no-field; ended = false; below = false; hidden = false }
+
+abbrev pub empty : Buffer
+empty = record { take = record { phase = Done; room = 0; taken = 0; over = false }; show = nothing }
+
 abbrev pub no-flags : Flags
 no-flags = record { ir = false; lp = false; ic = false; du = false; fo = false }
 
@@ -54,7 +71,12 @@ abbrev pub new : State
 new =
     record {
         shape = None; control = record { ve = false; ie = false; bursts = record { n = 1; d = 0 } }; cursor = None; pending = Nothing;
-        core = record { row = 0; line = 0; column = 0; blink = 0 }; flags = no-flags; pen = (0, 0)
+        core =
+            record {
+                row = 0; line = 0; column = 0; blink = 0; armed = false; dark = false; bursts = record { n = 1; d = 0 }; gap = 0;
+                fill = empty; shown = nothing
+            };
+        flags = no-flags; pen = (0, 0)
     }
 
 -- a written parameter is outstanding
@@ -96,11 +118,34 @@ dropped s =
         flags = improper (awaits-write (s .pending)) (s .flags); pen = s .pen
     }
 
--- 00 Reset clears VE, IE and IR, and waits for four parameters
+-- a frame that is not armed is dark and asks for nothing
+abbrev pub disarmed : Core → Core
+disarmed k =
+    record {
+        row = k .row; line = k .line; column = k .column; blink = k .blink; armed = false; dark = k .dark; bursts = k .bursts; gap = k .gap;
+        fill = k .fill; shown = k .shown
+    }
+
+-- to the first clock of a row time
+abbrev pub moved-to : (row : ℕ) → Core → Core
+moved-to row k =
+    record {
+        row = row; line = 0; column = 0; blink = k .blink; armed = k .armed; dark = k .dark; bursts = k .bursts; gap = k .gap;
+        fill = k .fill; shown = k .shown
+    }
+
+abbrev pub first-frame : Core → Core
+first-frame k =
+    record {
+        row = 0; line = 0; column = 0; blink = 0; armed = k .armed; dark = k .dark; bursts = k .bursts; gap = k .gap;
+        fill = k .fill; shown = k .shown
+    }
+
+-- 00 Reset clears VE, IE and IR, disarms the frame and waits for four parameters
 abbrev pub reset : State → State
 reset s =
     record {
-        shape = s .shape; control = record { ve = false; ie = false; bursts = s .control .bursts }; cursor = s .cursor; pending = Reset1; core = s .core;
+        shape = s .shape; control = record { ve = false; ie = false; bursts = s .control .bursts }; cursor = s .cursor; pending = Reset1; core = disarmed (s .core);
         flags = record { ir = false; lp = s .flags .lp; ic = s .flags .ic; du = s .flags .du; fo = s .flags .fo }; pen = s .pen
     }
 
@@ -109,25 +154,33 @@ abbrev pub controlled : (ve ie : Bool) → Bursts → State → State
 controlled ve ie bursts s =
     record { shape = s .shape; control = record { ve = ve; ie = ie; bursts = bursts }; cursor = s .cursor; pending = s .pending; core = s .core; flags = s .flags; pen = s .pen }
 
+-- 40 Stop Display clears VE and disarms the frame
+abbrev pub stopped : State → State
+stopped s =
+    record {
+        shape = s .shape; control = record { ve = false; ie = s .control .ie; bursts = s .control .bursts }; cursor = s .cursor; pending = s .pending;
+        core = disarmed (s .core); flags = s .flags; pen = s .pen
+    }
+
 -- the same console, waiting for something else
 abbrev pub waiting : Pending → State → State
 waiting p s = record { shape = s .shape; control = s .control; cursor = s .cursor; pending = p; core = s .core; flags = s .flags; pen = s .pen }
 
--- E0 Preset Counters moves to the first clock of row time 1; without a composition nothing moves
+-- E0 Preset Counters disarms the frame and moves to the first clock of row time 1; without a composition nothing moves
 abbrev pub preset-core : Option Shape → Core → Core
 preset-core None k = k
-preset-core (Some c) k = record { row = 1; line = 0; column = 0; blink = k .blink }
+preset-core (Some c) k = moved-to 1 k
 
 abbrev pub preset : State → State
 preset s =
-    record { shape = s .shape; control = s .control; cursor = s .cursor; pending = s .pending; core = preset-core (s .shape) (s .core); flags = s .flags; pen = s .pen }
+    record { shape = s .shape; control = s .control; cursor = s .cursor; pending = s .pending; core = disarmed (preset-core (s .shape) (s .core)); flags = s .flags; pen = s .pen }
 
--- 20 to 3F Start Display, 40 Stop Display, 60 Read Light Pen, 80 Load Cursor, A0 Enable and C0 Disable Interrupt
+-- 20 to 3F Start Display, 60 Read Light Pen, 80 Load Cursor, A0 Enable and C0 Disable Interrupt
 abbrev pub obeyed : State → (byte : ℕ) → State
 obeyed s b =
     cond (eqb b 0x00) (reset s)
     (cond (leb 0x20 b && leb b 0x3F) (controlled true true (record { n = burst-size (b % 4); d = burst-space (b / 4 % 8) }) s)
-    (cond (eqb b 0x40) (controlled false (s .control .ie) (s .control .bursts) s)
+    (cond (eqb b 0x40) (stopped s)
     (cond (eqb b 0x60) (waiting PenColumn s)
     (cond (eqb b 0x80) (waiting CursorColumn s)
     (cond (eqb b 0xA0) (controlled (s .control .ve) true (s .control .bursts) s)
@@ -153,7 +206,7 @@ parameter-to (Reset3 p q) s b = waiting (Reset4 p q b) s
 parameter-to (Reset4 p q r) s b =
     record {
         shape = Some (composed p q r b); control = s .control; cursor = s .cursor; pending = Nothing;
-        core = record { row = 0; line = 0; column = 0; blink = 0 }; flags = s .flags; pen = s .pen
+        core = first-frame (s .core); flags = s .flags; pen = s .pen
     }
 parameter-to CursorColumn s b = waiting (CursorRow b) s
 parameter-to (CursorRow c) s b = record { shape = s .shape; control = s .control; cursor = Some (c, b); pending = Nothing; core = s .core; flags = s .flags; pen = s .pen }

@@ -3,7 +3,7 @@ ghost use Prim.Native.Nat.{ℕ, _/_, _%_, _<_};
 ghost use mathlib.Core.Path.{_≡_};
 ghost use lib.ListN.{getD};
 ghost use Rattle.rows.specs.Takes.{burst-bytes};
-ghost use Rattle.console.specs.Ports.{Bursts, bursts-of, burst-size, burst-space, spaces};
+ghost use Rattle.frame.specs.Ports.{Bursts, bursts-of, burst-size, burst-space, spaces};
 use rows::burst::BurstSize;
 
 #[derive(Clone, Copy)]

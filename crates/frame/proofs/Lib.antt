@@ -1,0 +1,7 @@
+pub mod Takes
+pub mod Asks
+pub mod Filling
+pub mod Frames
+pub mod Sound
+pub mod Walks
+pub mod Lawful

@@ -1,0 +1,5 @@
+pub mod Ports
+pub mod Timing
+pub mod Machine
+pub mod History
+pub mod Law

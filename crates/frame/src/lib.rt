@@ -1,0 +1,6 @@
+// The controller as a whole: its state, one clock of it, histories of calls, and the law of a frame.
+pub mod burst;
+pub mod call;
+pub mod flags;
+pub mod pending;
+pub mod law;

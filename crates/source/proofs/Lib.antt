@@ -1,0 +1,4 @@
+mod Draining
+mod Reading
+mod Rounds
+mod Scan
