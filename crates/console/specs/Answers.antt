@@ -11,7 +11,8 @@ use Rattle.refusal.specs.declared.Refusal.the-variants.{NoComposition}
 use Rattle.video.specs.Composition.{Shape}
 use Rattle.rows.specs.Refusals.{window-refusal, still-refusal}
 use Rattle.rows.specs.Laws.{Windowed, Still}
-use Rattle.console.specs.Ports.{State}
+use Rattle.frame.specs.Ports.{State}
+use Rattle.frame.specs.Machine.{clock-word}
 
 -- a call that is refused or gives nothing but its effect
 abbrev pub answer : Option Refusal → Result (Unit {0}) Refusal
@@ -39,3 +40,13 @@ Window-of s page j place part = With (s .shape) (λ c. Windowed c (s .control .b
 -- the still of row j of a page, at a console's cursor and blink count, put into `out`, which became `out₂`
 abbrev pub Still-of : State → List ℕ → (row : ℕ) → (out out₂ : List ℕ) → Type 0
 Still-of s page j out out₂ = With (s .shape) (λ c. Still c (s .control .bursts .n) page (s .cursor) (s .core .blink) j out out₂)
+
+-- the word of a clock, or a refusal
+abbrev pub clock-answer : Option Shape → State → Result ℕ Refusal
+clock-answer None s = Err NoComposition
+clock-answer (Some c) s = Ok (clock-word c s)
+
+-- without a composition no pen stroke is kept
+abbrev pub stroke-refusal : Option Shape → Option Refusal
+stroke-refusal None = Some NoComposition
+stroke-refusal (Some c) = None

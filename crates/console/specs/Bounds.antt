@@ -3,8 +3,8 @@ use Prim.Native.Nat.{ℕ, _+_}
 use Rattle.std.specs.declared.option.Option.{Option}
 use Rattle.std.specs.declared.option.Option.the-variants.{Some, None}
 use Rattle.video.specs.declared.composition.Composition.{Composition}
-use Rattle.console.specs.declared.pending.Pending.{Pending}
-use Rattle.console.specs.declared.pending.Pending.the-variants.{Nothing, Reset1, Reset2, Reset3, Reset4, CursorColumn, CursorRow, PenColumn, PenRow}
+use Rattle.frame.specs.declared.pending.Pending.{Pending}
+use Rattle.frame.specs.declared.pending.Pending.the-variants.{Nothing, Reset1, Reset2, Reset3, Reset4, CursorColumn, CursorRow, PenColumn, PenRow}
 
 -- the row times of a frame, the lines of a row time, the clocks of a line; 1 each without a composition
 abbrev pub row-times : Option Composition → ℕ

@@ -1,4 +1,5 @@
+pub mod Raster
 pub mod Bounds
-pub mod Ports
 pub mod Model
+pub mod Steps
 pub mod Answers

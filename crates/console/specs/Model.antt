@@ -5,7 +5,8 @@ use Rattle.std.specs.declared.option.Option.the-variants.{Some, None}
 use Rattle.video.specs.Composition.{Shape, shape-of}
 use Rattle.video.specs.declared.composition.Composition.{Composition}
 use Rattle.console.specs.declared.state.Console.{Console}
-use Rattle.console.specs.Ports.{State, Control, Core, bursts-of}
+use Rattle.frame.specs.Ports.{State, bursts-of}
+use Rattle.console.specs.Raster.{core-of}
 
 abbrev pub shape-in : Option Composition → Option Shape
 shape-in None = None
@@ -17,6 +18,6 @@ state-of c =
         shape = shape-in (c .composition);
         control = record { ve = c .ve; ie = c .ie; bursts = bursts-of (c .burst) };
         cursor = c .cursor; pending = c .pending;
-        core = record { row = c .counters .row; line = c .counters .line; column = c .counters .column; blink = c .blink };
+        core = core-of (c .raster);
         flags = c .flags; pen = c .pen
     }

@@ -21,13 +21,13 @@ use Rattle.video.specs.declared.cell.Cell.{Cell}
 use Rattle.video.specs.declared.cell.Cell.the-variants.{Dark, Text, Symbol}
 use Rattle.video.specs.declared.signals.Signals.{Signals}
 use Rattle.rows.specs.Page.{blank, cursor-in, picture}
-use Rattle.rows.specs.Buffer.{column-cell, fresh}
+use Rattle.rows.specs.Buffer.{column-cell, nothing, fresh}
 use Rattle.rows.proofs.Chain.{at-top}
 use Rattle.frame.specs.declared.call.Call.{Call}
 use Rattle.frame.specs.declared.call.Call.the-variants.{Command, Parameter, Status, Read, Stroke, Clock}
 use Rattle.frame.specs.declared.call.Answer.{Answer}
 use Rattle.frame.specs.declared.call.Answer.the-variants.{Done, Byte, Word, Refused}
-use Rattle.frame.specs.Ports.{Bursts, Core, State, nothing, command-refusal, parameter-refusal}
+use Rattle.frame.specs.Ports.{Bursts, Core, State}
 use Rattle.frame.specs.Timing.{line-clocks, span, total, in-time, requested}
 use Rattle.frame.specs.Machine.{Opening, within, frame-start, row-start, opening, idle, prepared, begins, wants, pictured, word, fed, Turn, in-line, new-line, new-row, new-frame, turn, moved, requests, ready-core, ready-source, fed-core, next-core, clock-state, clock-source, clock-word}
 use Rattle.frame.specs.History.{Moment, clocked-by, source-by, word-by, stroke-answer, done, call-state, call-source, call-answer, after, answers, words}
@@ -204,7 +204,7 @@ pub clock-on :
     (c : Shape) (b : Bursts) (q : Option (ℕ × ℕ)) (page : List ℕ) (free : ℕ → Bool) (blink t : ℕ) (rest : List ℕ) (s : State) (m : Meaning)
     → At c b q page free blink t rest s → t < total c → Found-at page free t rest m
     → At c b q page free blink (suc t) (clock-source c s m .rest) (clock-state c s m)
-unfolding clock-source clock-state next-core fed-core
+unfolding clock-source clock-state next-core fed-core fed
 clock-on c b q page free blink t rest s m a lt f =
     let k : Core = ready-core c s in
     let r : List ℕ = rest-at t page rest in
@@ -212,13 +212,9 @@ clock-on c b q page free blink t rest s m a lt f =
     let src = source-is c b q page free blink t rest s m a lt f in
     let came : answer (ready-source s m) (wants k) ≡ handed (wants k) (free t) r = rw (src .0, src .1) refl in
     let rest₂ : left (wants k) (ready-source s m .free 0) (ready-source s m .rest) ≡ left (wants k) (free t) r = rw (src .0, src .1) refl in
-    let st : (k .row ≡ s .core .row) × (k .line ≡ s .core .line) × (k .column ≡ s .core .column) =
-        rw (ready-is c s) (stays c (s .control .ve) (s .control .bursts) (opening (s .core .row) (s .core .line) (s .core .column)) (s .core)) in
-    let same-turn : turn c (s .core .row) (s .core .line) (s .core .column) ≡ turn c (k .row) (k .line) (k .column) = rw (st .0, st .1, st .2) refl in
     let core₂ : Core = moved (turn c (k .row) (k .line) (k .column)) (fed c k (handed (wants k) (free t) r)) in
-    let same : moved (turn c (s .core .row) (s .core .line) (s .core .column)) (fed c k (answer (ready-source s m) (wants k))) ≡ core₂ =
-        ap (λ (x : Option ℕ). moved (turn c (s .core .row) (s .core .line) (s .core .column)) (fed c k x)) came
-        ∙ ap (λ (x : Turn). moved x (fed c k (handed (wants k) (free t) r))) same-turn in
+    let same : moved (turn c (k .row) (k .line) (k .column)) (fed c k (answer (ready-source s m) (wants k))) ≡ core₂ =
+        ap (λ (x : Option ℕ). moved (turn c (k .row) (k .line) (k .column)) (fed c k x)) came in
     let good : suc t < total c → Good c b page free blink (suc t) (stepped c (s .control .ve) (s .control .bursts) k (free t) r (turn c (k .row) (k .line) (k .column))) (left (wants k) (free t) r) =
         λ l. next c b page free blink t (s .control .ve) (s .control .bursts) k r g l in
     record {

@@ -9,9 +9,9 @@ use Rattle.source.specs.Meaning.{Meaning, begun, answer, clocked}
 use Rattle.video.specs.Composition.{Shape, width, line-count}
 use Rattle.video.specs.Picture.{bit, dark-word, cell-word}
 use Rattle.rows.specs.Page.{blank, cursor-in}
-use Rattle.rows.specs.Buffer.{Buffer, Shown, full, eat, fresh, column-cell}
+use Rattle.rows.specs.Buffer.{Buffer, Shown, full, eat, nothing, fresh, column-cell}
 use Rattle.frame.specs.declared.flags.Flags.{Flags}
-use Rattle.frame.specs.Ports.{Bursts, Core, State, nothing}
+use Rattle.frame.specs.Ports.{Bursts, Core, State}
 use Rattle.frame.specs.Timing.{pause}
 
 -- what begins with a clock: nothing, a frame, or a row time behind row time 0
@@ -130,7 +130,7 @@ unfoldable pub fed-core : Shape → State → Meaning → Core
 fed-core c s m = fed c (ready-core c s) (answer (ready-source s m) (wants (ready-core c s)))
 
 unfoldable pub next-core : Shape → State → Meaning → Core
-next-core c s m = moved (turn c (s .core .row) (s .core .line) (s .core .column)) (fed-core c s m)
+next-core c s m = moved (turn c (fed-core c s m .row) (fed-core c s m .line) (fed-core c s m .column)) (fed-core c s m)
 
 -- IR is set at the first clock of row time R if IE is set
 abbrev pub requests : Shape → State → Bool

@@ -3,17 +3,15 @@ use Prim.Native.Nat.{ℕ, _+_, _*_, _/_, _%_}
 use mathlib.Core.Bool.{Bool, true, false, cond, not, _&&_, _||_}
 use mathlib.Core.List.{List, [], _∷_}
 use lib.Dec.{leb, eqb}
-use lib.ListN.{getD, replicate}
+use lib.ListN.{getD}
 use Rattle.std.specs.declared.option.Option.{Option}
 use Rattle.std.specs.declared.option.Option.the-variants.{Some, None}
 use Rattle.refusal.specs.declared.Refusal.{Refusal}
 use Rattle.refusal.specs.declared.Refusal.the-variants.{UnknownCommand, TooManyColumns}
 use Rattle.video.specs.Composition.{Shape, allowed, composed}
 use Rattle.video.specs.Picture.{bit}
-use Rattle.video.specs.Fields.{no-field}
 use Rattle.rows.specs.Takes.{burst-bytes}
-use Rattle.rows.specs.Buffer.{Buffer, Shown}
-use Rattle.rows.specs.declared.kinds.Phase.the-variants.{Done}
+use Rattle.rows.specs.Buffer.{Buffer, Shown, nothing, top}
 use Rattle.frame.specs.declared.burst.Burst.{Burst}
 use Rattle.frame.specs.declared.flags.Flags.{Flags}
 use Rattle.frame.specs.declared.pending.Pending.{Pending}
@@ -57,13 +55,6 @@ pub record State : Type 0 where
   pub flags : Flags
   pub pen : ℕ × ℕ
 
--- a row buffer that holds nothing, above the first row
-abbrev pub nothing : Shown
-nothing = record { columns = []; ring = replicate 16 0; pairs = 0; field = no-field; ended = false; below = false; hidden = false }
-
-abbrev pub empty : Buffer
-empty = record { take = record { phase = Done; room = 0; taken = 0; over = false }; show = nothing }
-
 abbrev pub no-flags : Flags
 no-flags = record { ir = false; lp = false; ic = false; du = false; fo = false }
 
@@ -74,7 +65,7 @@ new =
         core =
             record {
                 row = 0; line = 0; column = 0; blink = 0; armed = false; dark = false; bursts = record { n = 1; d = 0 }; gap = 0;
-                fill = empty; shown = nothing
+                fill = top; shown = nothing
             };
         flags = no-flags; pen = (0, 0)
     }

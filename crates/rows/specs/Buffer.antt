@@ -6,7 +6,7 @@ use lib.Dec.{leb, eqb}
 use lib.ListN.{length, set, getD, replicate}
 use Rattle.std.specs.declared.option.Option.{Option}
 use Rattle.std.specs.declared.option.Option.the-variants.{Some, None}
-use Rattle.video.specs.Fields.{field-of}
+use Rattle.video.specs.Fields.{field-of, no-field}
 use Rattle.video.specs.declared.field.Field.{Field}
 use Rattle.video.specs.declared.cell.Cell.{Cell}
 use Rattle.video.specs.declared.cell.Cell.the-variants.{Dark, Text, Symbol}
@@ -136,6 +136,13 @@ pub record Buffer : Type 0 where
 
 unfoldable pub eat : (f : Bool) (n : ℕ) → Buffer → ℕ → Buffer
 eat f n b x = record { take = took f n (b .take) x; show = puts (b .show) (fills f (b .take .phase) x) }
+
+-- what stands above the first row
+abbrev pub nothing : Shown
+nothing = record { columns = []; ring = replicate 16 0; pairs = 0; field = no-field; ended = false; below = false; hidden = false }
+
+abbrev pub top : Buffer
+top = record { take = record { phase = Done; room = 0; taken = 0; over = false }; show = nothing }
 
 -- a buffer for a row below one that left `over` and `above`; an idle row takes nothing
 unfoldable pub fresh : (h : ℕ) (idle over : Bool) (above : Shown) → Buffer

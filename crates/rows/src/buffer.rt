@@ -3,16 +3,18 @@ ghost use Prim.Native.Nat.{ℕ, _+_, _<_, _≤_};
 ghost use mathlib.Core.Path.{_≡_};
 ghost use mathlib.Core.Bool.{Bool, true, false, cond, _||_};
 ghost use lib.ListN.{length};
-ghost use Rattle.video.specs.Fields.{no-field};
-ghost use Rattle.rows.specs.Buffer.{full, eat, fresh, reads};
+ghost use Rattle.rows.specs.Takes.{burst-bytes};
+ghost use Rattle.rows.specs.Buffer.{full, eat, top, fresh, reads};
 ghost use Rattle.rows.specs.Model.{bytes, shown-of, buffer-of, read-of};
 ghost use Rattle.rows.specs.declared.kinds.Phase.the-variants.{Ready, Done};
+use crate::burst::BurstSize;
 use crate::kinds::Column;
 use crate::kinds::Phase;
 use crate::state::RowBuffer;
 use crate::state::Showing;
 use crate::state::Taking;
 use video::cell::Cell;
+use video::composition::Composition;
 use video::field::Field;
 
 fn opened(idle: bool, over: bool) -> Phase
@@ -23,10 +25,8 @@ fn opened(idle: bool, over: bool) -> Phase
 
 impl RowBuffer {
     // A buffer above the first row.
-    pub(crate) fn top() -> RowBuffer
-        ensures over { λ r. ⌜ r .take .over ≡ false ⌝ }
-        ensures field { λ r. ⌜ r .show .field ≡ no-field ⌝ }
-        ensures below { λ r. ⌜ r .show .below ≡ false ⌝ }
+    pub fn top() -> RowBuffer
+        ensures { λ r. ⌜ buffer-of r ≡ top ⌝ }
     {
         RowBuffer {
             take: Taking { phase: Phase::Done, room: 0, taken: 0, over: false },
@@ -43,14 +43,13 @@ impl RowBuffer {
         }
     }
 
-    // A buffer for a row of h positions below one that left `over` and `above`; an idle row takes nothing.
-    pub(crate) fn fresh(h: u8, idle: bool, over: bool, above: &Showing) -> RowBuffer
-        requires { ⌜ h ≤ 80 ⌝ }
-        ensures { λ r. ⌜ buffer-of r ≡ fresh h idle over (shown-of (now (above .entry))) ⌝ }
+    // A buffer for a row below one that left `over` and `above`; an idle row takes nothing.
+    pub fn fresh(composition: &Composition, idle: bool, over: bool, above: &Showing) -> RowBuffer
+        ensures { λ r. ⌜ buffer-of r ≡ fresh (now (composition .entry) .columns) idle over (shown-of (now (above .entry))) ⌝ }
     {
         let phase = opened(idle, over);
         RowBuffer {
-            take: Taking { phase, room: h, taken: 0, over },
+            take: Taking { phase, room: composition.columns, taken: 0, over },
             show: Showing {
                 columns: [Column::Fixed(Cell::Dark); 80],
                 len: 0,
@@ -75,14 +74,17 @@ impl RowBuffer {
         requires { ⌜ 1 ≤ n ⌝ ∗ ⌜ full (buffer-of (now self) .take) ≡ false ⌝ }
         ensures { λ _. ⌜ buffer-of (now (self .exit)) ≡ eat opaque n (buffer-of (now (self .entry))) b ⌝ }
     {
-        let mut take = self.take;
-        let mut show = self.show;
-        match take.eat(opaque, n, b) {
-            None => *self = RowBuffer { take, show },
-            Some(p) => {
-                show.put(p);
-                *self = RowBuffer { take, show };
-            }
+        if let Some(p) = self.take.eat(opaque, n, b) {
+            self.show.put(p);
+        }
+    }
+
+    // One byte more, by bursts of a size; a full row takes none.
+    pub fn store(&mut self, opaque: bool, burst: BurstSize, b: u8)
+        ensures { λ _. ⌜ buffer-of (now (self .exit)) ≡ cond (full (buffer-of (now (self .entry)) .take)) (buffer-of (now (self .entry))) (eat opaque (burst-bytes burst) (buffer-of (now (self .entry))) b) ⌝ }
+    {
+        if !self.full() {
+            self.eat(opaque, burst.bytes(), b);
         }
     }
 }

@@ -15,7 +15,7 @@ use crate::state::RowBuffer;
 use video::cell::dark_word;
 use video::composition::Composition;
 
-pub(crate) fn blank(composition: &Composition, row: u8) -> bool
+pub fn blank(composition: &Composition, row: u8) -> bool
     ensures { λ r. ⌜ r ≡ blank (shape-of (now (composition .entry))) row ⌝ }
 {
     composition.spaced & (row % 2 == 0)
@@ -28,7 +28,7 @@ fn next_row(composition: &Composition, n: u8, page: &[u8], at: usize, above: Row
         → Next (shape-of (now (composition .entry))) n (now (page .entry)) j at r) ⌝ }
     ensures fits { λ r. ⌜ at + bytes r ≤ length (now (page .entry)) ⌝ }
 {
-    let start = RowBuffer::fresh(composition.columns, idle, above.take.over, &above.show);
+    let start = RowBuffer::fresh(composition, idle, above.take.over, &above.show);
     fill(start, composition.opaque, n, &page[at..])
 }
 
@@ -56,13 +56,13 @@ pub(crate) fn locate(composition: &Composition, n: u8, page: &[u8], j: u8) -> Op
     }
 }
 
-// The cursor stands in column p of row j + 1.
-fn cursor_in(cursor: Option<(u8, u8)>, j: u8, p: u8) -> bool
-    ensures { λ r. ⌜ r ≡ cursor-in cursor (suc j) p ⌝ }
+// The cursor, whose column and row count from 0, stands in column p of a row.
+pub fn cursor_in(cursor: Option<(u8, u8)>, row: u16, p: u8) -> bool
+    ensures { λ r. ⌜ r ≡ cursor-in cursor row p ⌝ }
 {
     match cursor {
         None => false,
-        Some((column, row)) => (column == p) & (row as u16 + 1 == j as u16 + 1),
+        Some((column, above)) => (column == p) & (above as u16 + 1 == row),
     }
 }
 
@@ -74,7 +74,7 @@ fn picture(composition: &Composition, cursor: Option<(u8, u8)>, blink: u8, found
     if p >= composition.columns {
         return dark_word(composition.line_count(line), true, false);
     }
-    let here = cursor_in(cursor, j, p);
+    let here = cursor_in(cursor, j as u16 + 1, p);
     found.row.show.cell(p).word(composition, line, blink, here)
 }
 

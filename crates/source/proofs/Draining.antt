@@ -72,11 +72,11 @@ behind-more true k [] = drop-nil k
 behind-more true k (b ∷ bs) = refl
 behind-more false k rest = refl
 
-each-more : (n : ℕ) (m : Meaning) (os : List (Option ℕ))
+each-more : (m : Meaning) (os : List (Option ℕ))
     → ((k : ℕ) → k < length os → getD os k None ≡ cond (m .free (suc k)) (first-of (drop (frees (later (m .free)) k) (left true (m .free 0) (m .rest)))) None)
     → (k : ℕ) → k < suc (length os) → getD (answer m true ∷ os) k None ≡ cond (m .free k) (first-of (drop (frees (m .free) k) (m .rest))) None
-each-more n m os e zero h = refl
-each-more n m os e (suc k) h =
+each-more m os e zero h = refl
+each-more m os e (suc k) h =
     e k (omega arith) ∙ ap (λ l. cond (m .free (suc k)) (first-of l) None)
     (behind-more (m .free 0) (frees (later (m .free)) k) (m .rest) ∙ ap (λ j. drop j (m .rest)) (sym (frees-first (m .free) k)))
 
@@ -86,7 +86,7 @@ drains (suc n) m =
     let p = drains n (clocked m true) in
     let os = answers n (clocked m true) in
     let count = sym (frees-first (m .free) (length os)) in
-    let each = each-more n m os (p .each) in
+    let each = each-more m os (p .each) in
     record {
       front = front-more (m .free 0) (frees (later (m .free)) (length os)) (m .rest) os (p .front) ∙ ap (λ k. take k (m .rest)) count;
       each = each;

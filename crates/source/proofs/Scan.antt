@@ -10,17 +10,20 @@ use Rattle.std.proofs.shelf.Ways.{tells}
 use Rattle.source.specs.declared.stalls.Span.{Span}
 use Rattle.source.specs.Stalling.{small, all-small, covers, busy-in, outside, bad-spans}
 
+abbrev nowhere : Span
+nowhere = record { first = 0; length = 0 }
+
 abbrev pub span-at : List Span → ℕ → Span
-span-at xs i = getD xs i (record { first = 0; length = 0 })
+span-at xs i = getD xs i nowhere
 
 pub small-more : (xs : List Span) (i : ℕ) → i < length xs → all-small (drop i xs) ≡ (small (span-at xs i) && all-small (drop (i + 1) xs))
-small-more xs i h = at-drop-more all-small xs i (record { first = 0; length = 0 }) h
+small-more xs i h = at-drop-more all-small xs i nowhere h
 
 pub small-done : (xs : List Span) (i : ℕ) → length xs ≤ i → all-small (drop i xs) ≡ true
 small-done xs i h = at-drop-all all-small xs i h
 
 pub busy-more : (xs : List Span) (i t : ℕ) → i < length xs → busy-in (drop i xs) t ≡ (covers (span-at xs i) t || busy-in (drop (i + 1) xs) t)
-busy-more xs i t h = at-drop-more (λ ys. busy-in ys t) xs i (record { first = 0; length = 0 }) h
+busy-more xs i t h = at-drop-more (λ ys. busy-in ys t) xs i nowhere h
 
 pub busy-done : (xs : List Span) (i t : ℕ) → length xs ≤ i → busy-in (drop i xs) t ≡ false
 busy-done xs i t h = at-drop-all (λ ys. busy-in ys t) xs i h

@@ -10,6 +10,6 @@ always n = true
 abbrev pub in-turn : ℕ → ℕ → ℕ → ℕ → Bool
 in-turn a b gone n = ltb ((gone + n) % (a + b)) a
 
--- a turn of no clocks at all is no turn
+-- a turn of no clocks at all
 abbrev pub no-turn : ℕ → ℕ → Bool
 no-turn a b = eqb a 0 && eqb b 0

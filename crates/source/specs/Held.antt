@@ -11,6 +11,7 @@ use Rattle.source.specs.Meaning.{Meaning}
 use Rattle.source.specs.Buses.{always, in-turn}
 use Rattle.source.specs.Stalling.{outside}
 
+-- a page in memory is handed out from its index on
 abbrev pub bytes-of : Page → List ℕ
 bytes-of p = vec-items (p .bytes)
 

@@ -6,9 +6,11 @@ use lib.Dec.{ltb, leb}
 use lib.ListN.{length}
 use Rattle.source.specs.declared.stalls.Span.{Span}
 
+-- from the first clock on, for as many as the length
 abbrev pub covers : Span → ℕ → Bool
 covers s t = leb (s .first) t && ltb t (s .first + s .length)
 
+-- some span has the clock
 abbrev pub busy-in : List Span → ℕ → Bool
 busy-in [] t = false
 busy-in (s ∷ ss) t = covers s t || busy-in ss t
@@ -17,6 +19,7 @@ busy-in (s ∷ ss) t = covers s t || busy-in ss t
 abbrev pub outside : List Span → ℕ → ℕ → Bool
 outside spans count n = not (busy-in spans (min (count + n) 4294967295))
 
+-- both figures are below the limit
 abbrev pub small : Span → Bool
 small s = ltb (s .first) 2147483648 && ltb (s .length) 2147483648
 

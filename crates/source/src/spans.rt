@@ -51,7 +51,7 @@ impl SpanBus {
 
     // The clocks since the making. Where the count has stopped, the bus stays free.
     pub fn count(&self) -> u32
-        ensures count { λ r. ⌜ r ≡ now (self .entry) .stalls .count ⌝ }
+        ensures value { λ r. ⌜ r ≡ now (self .entry) .stalls .count ⌝ }
         ensures stopped { λ r. ⌜ (r ≡ 4294967295 → (n : ℕ) → span-bus (now (self .entry)) .free n ≡ true) ⌝ }
     {
         self.stalls.count()

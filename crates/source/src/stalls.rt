@@ -107,7 +107,7 @@ impl Stalls {
     }
 
     pub(crate) fn count(&self) -> u32
-        ensures count { λ r. ⌜ r ≡ now (self .entry) .count ⌝ }
+        ensures value { λ r. ⌜ r ≡ now (self .entry) .count ⌝ }
         ensures stopped { λ r. ⌜ (r ≡ 4294967295 → (n : ℕ) → outside (vec-items (now (self .entry) .spans)) r n ≡ true) ⌝ }
     {
         self.count

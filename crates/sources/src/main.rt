@@ -216,12 +216,9 @@ fn play_on(rt: &LibcRuntime, page: &[u8]) -> Result<(), AnyError> {
     report(rt, "the count stopped", &mut bus, page, free.as_slice())
 }
 
-// Where each limit lies, and that of two refusals the smaller number wins.
-fn try_limits(rt: &LibcRuntime) -> Result<(), AnyError> {
+// The page's limit, and that a page too long is told before a bad bus.
+fn try_pages(rt: &LibcRuntime, page: &[u8], over: &[u8]) -> Result<(), AnyError> {
     let heap = rt.alloc();
-    let longest = some_page(heap, 16_384)?;
-    let too_long = some_page(heap, 16_385)?;
-    let (page, over) = (longest.as_slice(), too_long.as_slice());
     let mut free = FreeBus::new(heap);
     print_made(rt, "16384 bytes", free.make(heap, page))?;
     print_made(rt, "16385 bytes", free.make(heap, over))?;
@@ -232,6 +229,12 @@ fn try_limits(rt: &LibcRuntime) -> Result<(), AnyError> {
         "16385 bytes, 0 free, 0 busy",
         turns.make(heap, over, 0, 0),
     )?;
+    Ok(())
+}
+
+// The limits of a list of spans.
+fn try_spans(rt: &LibcRuntime, page: &[u8], over: &[u8]) -> Result<(), AnyError> {
+    let heap = rt.alloc();
     let mut bus = SpanBus::new(heap);
     let mut spans = Vec::from_elem(heap, busy(9, 1), 256)?;
     print_made(rt, "256 spans", bus.make(heap, page, spans.as_slice()))?;
@@ -273,7 +276,10 @@ fn run(rt: &LibcRuntime) -> Result<(), AnyError> {
     )?;
     play_spans(rt, page.as_slice(), &[busy(2000, 2_147_483_647)])?;
     play_on(rt, page.as_slice())?;
-    try_limits(rt)
+    let longest = some_page(rt.alloc(), 16_384)?;
+    let too_long = some_page(rt.alloc(), 16_385)?;
+    try_pages(rt, longest.as_slice(), too_long.as_slice())?;
+    try_spans(rt, longest.as_slice(), too_long.as_slice())
 }
 
 fn main(rt: LibcRuntime) -> Result<(), AnyError> {

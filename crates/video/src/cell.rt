@@ -2,7 +2,7 @@
 //
 //    21   20   19   18   17   16  15  14   13  12   11..8      6..0
 //   VRTC HRTC GPA1 GPA0 HGLT VSP RVV LTEN LA1 LA0 line count character
-ghost use Prim.Native.Nat.{ℕ, _+_, _*_, _/_, _%_};
+ghost use Prim.Native.Nat.{ℕ, _+_, _*_, _/_, _%_, _<_, _≤_};
 ghost use mathlib.Core.Path.{_≡_};
 ghost use mathlib.Core.Bool.{Bool, true, false};
 ghost use Rattle.video.specs.Composition.{shape-of};
@@ -116,13 +116,15 @@ fn finished(composition: &Composition, line: u8, blink: u8, here: bool, x: Signa
 }
 
 fn bit(b: bool) -> u32
-    ensures { λ r. ⌜ r ≡ bit b ⌝ }
+    ensures is { λ r. ⌜ r ≡ bit b ⌝ }
+    ensures small { λ r. ⌜ r ≤ 1 ⌝ }
 {
     if b { 1 } else { 0 }
 }
 
 fn signals_word(count: u8, x: Signals) -> u32
-    ensures { λ r. ⌜ r ≡ signals-word count x ⌝ }
+    ensures is { λ r. ⌜ r ≡ signals-word count x ⌝ }
+    ensures small { λ r. ⌜ r < 0x400000 ⌝ }
 {
     (x.cc % 128) as u32
         + 0x100 * count as u32
@@ -138,7 +140,8 @@ fn signals_word(count: u8, x: Signals) -> u32
 
 // A dark clock: video suppression and the line count alone, with the retrace lines.
 pub fn dark_word(count: u8, hrtc: bool, vrtc: bool) -> u32
-    ensures { λ r. ⌜ r ≡ dark-word count hrtc vrtc ⌝ }
+    ensures is { λ r. ⌜ r ≡ dark-word count hrtc vrtc ⌝ }
+    ensures small { λ r. ⌜ r < 0x400000 ⌝ }
 {
     0x100 * count as u32 + 0x10000 + 0x100000 * bit(hrtc) + 0x200000 * bit(vrtc)
 }
@@ -146,7 +149,8 @@ pub fn dark_word(count: u8, hrtc: bool, vrtc: bool) -> u32
 impl Cell {
     // The picture bits of a column on a line of its row: `here` where the cursor stands in it.
     pub fn word(self, composition: &Composition, line: u8, blink: u8, here: bool) -> u32
-        ensures { λ r. ⌜ r ≡ cell-word (shape-of (now (composition .entry))) line blink here self ⌝ }
+        ensures is { λ r. ⌜ r ≡ cell-word (shape-of (now (composition .entry))) line blink here self ⌝ }
+        ensures small { λ r. ⌜ r < 0x400000 ⌝ }
     {
         let count = composition.line_count(line);
         let underline = composition.underline;

@@ -3,14 +3,14 @@ ghost use Prim.Native.Nat.{ℕ};
 ghost use mathlib.Core.Path.{_≡_};
 ghost use mathlib.Core.Bool.{true};
 ghost use Rattle.video.specs.Picture.{bit};
-ghost use Rattle.console.specs.Ports.{new, is-command, command-refusal, preset, obeyed, commanded, parameter-refusal, parameter-written, status-byte, status-read, parameter-byte, parameter-read};
+ghost use Rattle.frame.specs.Ports.{new, is-command, command-refusal, preset, obeyed, commanded, parameter-refusal, parameter-written, status-byte, status-read, parameter-byte, parameter-read};
 ghost use Rattle.console.specs.Model.{state-of};
 ghost use Rattle.console.specs.Answers.{answer};
-use crate::burst::Burst;
-use crate::pending::Pending;
+use crate::raster::Raster;
 use crate::state::Console;
-use crate::state::Counters;
-use crate::state::Flags;
+use frame::burst::Burst;
+use frame::flags::Flags;
+use frame::pending::Pending;
 use refusal::Refusal;
 use video::composition::Composition;
 use rows::burst::BurstSize;
@@ -42,8 +42,7 @@ impl Console {
             ie: false,
             burst: Burst { size: BurstSize::One, space: 0 },
             cursor: None,
-            counters: Counters { row: 0, line: 0, column: 0 },
-            blink: 0,
+            raster: Raster::new(),
             flags: Flags { ir: false, lp: false, ic: false, du: false, fo: false },
             pen: (0, 0),
         }
@@ -76,13 +75,17 @@ impl Console {
                 self.ve = false;
                 self.ie = false;
                 self.flags.ir = false;
+                self.raster.disarm();
             }
             0x20..=0x3F => {
                 self.ve = true;
                 self.ie = true;
                 self.burst = Burst::from_command(byte);
             }
-            0x40 => self.ve = false,
+            0x40 => {
+                self.ve = false;
+                self.raster.disarm();
+            }
             0x60 => self.pending = Pending::PenColumn,
             0x80 => self.pending = Pending::CursorColumn,
             0xA0 => self.ie = true,
@@ -91,12 +94,13 @@ impl Console {
         }
     }
 
-    // To the first clock of row time 1.
+    // To the first clock of row time 1, in a frame that is not armed.
     fn preset(&mut self)
         ensures { λ _. ⌜ state-of (now (self .exit)) ≡ preset (state-of (now (self .entry))) ⌝ }
     {
+        self.raster.disarm();
         if let Some(_) = self.composition {
-            self.counters = Counters { row: 1, line: 0, column: 0 };
+            self.raster.move_to(1);
         }
     }
 
@@ -114,8 +118,7 @@ impl Console {
                 let composition = Composition::from_parameters(first, second, third, fourth)?;
                 self.pending = Pending::Nothing;
                 self.composition = Some(composition);
-                self.counters = Counters { row: 0, line: 0, column: 0 };
-                self.blink = 0;
+                self.raster.restart();
             }
             (Pending::CursorColumn, column) => self.pending = Pending::CursorRow(column),
             (Pending::CursorRow(column), row) => {

@@ -5,6 +5,7 @@ use mathlib.Core.Path.{_≡_, refl, sym, ap, _∙_}
 use native.Mathlib.Omega.{arith}
 use native.Mathlib.Numerals.{add-one}
 use lib.ListN.{length}
+use Rattle.rows.specs.Buffer.{Buffer}
 use Rattle.rows.specs.Page.{blank}
 use Rattle.video.specs.Composition.{shape-of}
 use Rattle.rows.specs.Stands.{Stands, Behind, Next}
@@ -15,8 +16,9 @@ use Rattle.rows.proofs.page.locate.Needs as need
 
 pub loop-i-holds : need.loop-i-holds
 loop-i-holds c =
-    let o = c .top-above .ensures .over in
-    (rw o (at-top (shape-of (c .args .composition .now)) (c .args .n) (c .args .page .now) (shown-of (c .top-above .result .show)) (c .top-above .ensures .field) (c .top-above .ensures .below)), omega arith)
+    let e = c .top-above .ensures in
+    let over : c .top-above .result .take .over ≡ false = ap (λ (x : Buffer). x .take .over) e in
+    (rw over (at-top (shape-of (c .args .composition .now)) (c .args .n) (c .args .page .now) (shown-of (c .top-above .result .show)) (ap (λ (x : Buffer). x .show .field) e) (ap (λ (x : Buffer). x .show .below) e)), omega arith)
 
 pub returns-in-None : need.returns-in-None
 returns-in-None c =

@@ -2,9 +2,9 @@
 use borrow.Author.Needs.{needs}
 use mathlib.Core.Bool.{Bool, true, _||_}
 use mathlib.Core.Path.{_≡_, refl, sym, ap, _∙_}
-use Rattle.console.specs.declared.pending.Pending.{Pending}
-use Rattle.console.specs.declared.pending.Pending.the-variants.{Nothing, Reset1, Reset2, Reset3, Reset4, CursorColumn, CursorRow, PenColumn, PenRow}
-use Rattle.console.specs.Ports.{awaits-write}
+use Rattle.frame.specs.declared.pending.Pending.{Pending}
+use Rattle.frame.specs.declared.pending.Pending.the-variants.{Nothing, Reset1, Reset2, Reset3, Reset4, CursorColumn, CursorRow, PenColumn, PenRow}
+use Rattle.frame.specs.Ports.{awaits-write}
 use Rattle.console.proofs.state.Console.command.Needs as need
 use Rattle.console.proofs.state.Console.command.Needs.{in-Nothing-rest, in-rest-2}
 

@@ -9,11 +9,11 @@ use Rattle.rows.specs.Model.{taken-of, shown-of}
 use Rattle.rows.proofs.Steps.{eat-joined}
 use Rattle.rows.proofs.state.RowBuffer.eat.Needs as need
 
-pub returns-in-None : need.returns-in-None
+pub returns-in-rest : need.returns-in-rest
 unfolding puts
-returns-in-None c =
+returns-in-rest c =
     let s = c .args .self .now in
-    eat-joined (c .args .opaque) (c .args .n) (taken-of (s .take)) (shown-of (s .show)) (c .args .b) _ _ [] (c .eat .ensures .state) (c .in-None .ensures tt .fills) refl
+    eat-joined (c .args .opaque) (c .args .n) (taken-of (s .take)) (shown-of (s .show)) (c .args .b) _ _ [] (c .eat .ensures .state) (c .in-rest .ensures tt .fills) refl
 
 pub returns-in-Some : need.returns-in-Some
 unfolding puts

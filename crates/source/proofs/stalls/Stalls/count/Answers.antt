@@ -4,4 +4,4 @@ use Rattle.source.proofs.Scan.{free-at-stop}
 use Rattle.source.proofs.stalls.Stalls.count.Needs as need
 
 pub returns : need.returns
-returns c = record { count = refl; stopped = free-at-stop (vec-items (c .args .self .now .spans)) (c .args .self .now .count) (c .args .self .now .fit) }
+returns c = record { value = refl; stopped = free-at-stop (vec-items (c .args .self .now .spans)) (c .args .self .now .count) (c .args .self .now .fit) }

@@ -13,12 +13,12 @@ joined c line k here w n x s t a b d e = let u : x ≡ finished c line k here t 
 
 pub returns-in-Dark : need.returns-in-Dark
 unfolding cell-word
-returns-in-Dark c = let e = c .in-Dark .is in c .dark-word .ensures ∙ simp (e, c .line-count-count .ensures)
+returns-in-Dark c = let e = c .in-Dark .is in record { is = c .dark-word .ensures .is ∙ simp (e, c .line-count-count .ensures); small = c .dark-word .ensures .small }
 
 pub returns-in-Text : need.returns-in-Text
 unfolding cell-word
-returns-in-Text c = let e = c .in-Text .is in rw e (joined (shape-of (c .args .composition .now)) (c .args .line) (c .args .blink) (c .args .here) _ _ _ _ _ (c .signals-word .ensures) (c .line-count-count .ensures) (c .finished .ensures) (c .text-signals .ensures))
+returns-in-Text c = let e = c .in-Text .is in record { is = rw e (joined (shape-of (c .args .composition .now)) (c .args .line) (c .args .blink) (c .args .here) _ _ _ _ _ (c .signals-word .ensures .is) (c .line-count-count .ensures) (c .finished .ensures) (c .text-signals .ensures)); small = c .signals-word .ensures .small }
 
 pub returns-in-Symbol : need.returns-in-Symbol
 unfolding cell-word
-returns-in-Symbol c = let e = c .in-Symbol .is in rw e (joined (shape-of (c .args .composition .now)) (c .args .line) (c .args .blink) (c .args .here) _ _ _ _ _ (c .signals-word-in-Symbol .ensures) (c .line-count-count .ensures) (c .finished-in-Symbol .ensures) (c .graphic-signals .ensures))
+returns-in-Symbol c = let e = c .in-Symbol .is in record { is = rw e (joined (shape-of (c .args .composition .now)) (c .args .line) (c .args .blink) (c .args .here) _ _ _ _ _ (c .signals-word-in-Symbol .ensures .is) (c .line-count-count .ensures) (c .finished-in-Symbol .ensures) (c .graphic-signals .ensures)); small = c .signals-word-in-Symbol .ensures .small }

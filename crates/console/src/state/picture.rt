@@ -33,7 +33,7 @@ impl Console {
     {
         match self.composition {
             None => Err(Refusal::NoComposition),
-            Some(composition) => PageReader::new(composition, self.burst.size, page).still(row, self.cursor, self.blink, out),
+            Some(composition) => PageReader::new(composition, self.burst.size, page).still(row, self.cursor, self.raster.blink, out),
         }
     }
 }
