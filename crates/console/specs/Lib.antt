@@ -3,3 +3,4 @@ pub mod Bounds
 pub mod Model
 pub mod Steps
 pub mod Answers
+pub mod Playing

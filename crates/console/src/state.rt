@@ -35,4 +35,5 @@ pub struct Console {
 
 pub mod clock;
 pub mod picture;
+pub mod play;
 pub mod port;

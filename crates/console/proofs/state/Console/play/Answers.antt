@@ -1,0 +1,37 @@
+-- Each turn plays one call more, and the law follows for them all.
+use mathlib.Core.Path.{_≡_, refl, ap, subst, _∙_}
+use mathlib.Core.List.{List, [], _∷_, _++_}
+use native.Mathlib.Omega.{arith}
+use lib.ListN.{drop}
+use Rattle.std.specs.Of.Vec.{vec-items}
+use Rattle.frame.specs.declared.call.Answer.{Answer}
+use Rattle.console.specs.Model.{state-of}
+use Rattle.console.specs.Playing.{Played}
+use Rattle.console.proofs.Plays.{On, on-more, on-end, next-call, no-call, lawful}
+use Rattle.console.proofs.state.Console.play.Needs as need
+
+pub loop-call-holds : need.loop-call-holds
+loop-call-holds g c =
+    (record { state = refl; source = refl; all = refl }, (let h = c .in-Continue-reserve .ensures tt .cases in omega arith))
+
+pub loop-call-again : need.loop-call-again
+loop-call-again g c =
+    let means = g .S·Source .means in
+    let l = c .loop-call in
+    (on-more (drop (l .call-index) (c .args .calls .now)) _ (drop _ (c .args .calls .now)) (state-of (l .self)) (state-of (c .call-answer .last .self)) (means (l .source)) (means (c .call-answer .last .source))
+        (vec-items (l .answers)) (vec-items (c .push-reserved .last .self)) _ _ _ _
+        (l .inv .0) (next-call (c .args .calls .now) (l .call-index) _ (c .loop-call-test .taken)) (c .call-answer .ensures .state) (c .call-answer .ensures .source)
+        (c .push-reserved .ensures .items ∙ ap (λ (a : Answer). vec-items (l .answers) ++ (a ∷ [])) (c .call-answer .ensures .answer)),
+     (let i = l .inv .1 in let n = c .push-reserved .ensures .len in let k = c .push-reserved .ensures .capacity in omega arith))
+
+pub returns : need.returns
+returns g c =
+    let means = g .S·Source .means in
+    let s = state-of (c .args .self .now) in
+    let m = means (c .args .source .now) in
+    let same : vec-items (c .reserve .last .self) ≡ vec-items (c .args .answers .now) = c .reserve .ensures .items in
+    let p : Played s m (c .args .calls .now) (vec-items (c .args .answers .now)) (state-of (c .loop-call .self)) (means (c .loop-call .source)) (vec-items (c .loop-call .answers)) =
+        subst (λ (out : List Answer). Played s m (c .args .calls .now) out (state-of (c .loop-call .self)) (means (c .loop-call .source)) (vec-items (c .loop-call .answers))) same
+        (on-end _ (state-of (c .loop-call .self)) (means (c .loop-call .source)) (vec-items (c .loop-call .answers)) (c .args .calls .now) s m (vec-items (c .reserve .last .self))
+        (no-call (c .args .calls .now) (c .loop-call .call-index) (c .loop-call-test .left)) (c .loop-call .inv .0)) in
+    record { played = p; law = lawful s m (c .args .calls .now) (vec-items (c .args .answers .now)) (state-of (c .loop-call .self)) (means (c .loop-call .source)) (vec-items (c .loop-call .answers)) p }
