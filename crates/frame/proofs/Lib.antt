@@ -5,3 +5,4 @@ pub mod Frames
 pub mod Sound
 pub mod Walks
 pub mod Lawful
+pub mod Harmless

@@ -7,13 +7,14 @@ use lib.Dec.{eqb, leb, ltb}
 use lib.ListN.{length, getD}
 use Rattle.std.specs.declared.option.Option.{Option}
 use Rattle.std.specs.declared.option.Option.the-variants.{Some, None}
+use Rattle.refusal.specs.declared.Refusal.{Refusal}
 use Rattle.source.specs.Meaning.{Meaning}
 use Rattle.video.specs.Composition.{Shape, line-count}
 use Rattle.video.specs.Picture.{bit, dark-word}
 use Rattle.rows.specs.Page.{picture}
 use Rattle.frame.specs.declared.call.Call.{Call}
 use Rattle.frame.specs.declared.call.Call.the-variants.{Command, Parameter, Status, Read, Stroke, Clock}
-use Rattle.frame.specs.Ports.{State, Core, new}
+use Rattle.frame.specs.Ports.{State, Core, new, command-refusal, parameter-refusal}
 use Rattle.frame.specs.Timing.{span, total, in-time, requested}
 use Rattle.frame.specs.History.{Moment, after, answers, words, call-state, call-source}
 
@@ -145,3 +146,11 @@ Frame-law =
     (c : Shape) (h es : List Moment) (page : List ℕ) (free : ℕ → Bool) → Ready c (after h new) → Quiet es (after h new)
     → Found page free 0 [] es (after h new) → clocks es ≤ (c .h + c .z) * c .l * (c .r + c .v)
     → Law c (after h new) page free (clocks es) (after es (after h new)) (words (answers es (after h new)))
+
+-- the calls that leave a frame as it was: reads, pen strokes, and writes that are refused
+pub record Harmless : Type 0 where
+  pub status : (s : State) (m : Meaning) → Alike s (call-state Status s m)
+  pub read : (s : State) (m : Meaning) → Alike s (call-state Read s m)
+  pub stroke : (s : State) (m : Meaning) → Alike s (call-state Stroke s m)
+  pub command : (s : State) (m : Meaning) (b : ℕ) (e : Refusal) → command-refusal b ≡ Some e → call-state (Command b) s m ≡ s
+  pub parameter : (s : State) (m : Meaning) (b : ℕ) (e : Refusal) → parameter-refusal s b ≡ Some e → call-state (Parameter b) s m ≡ s

@@ -3,3 +3,4 @@ pub mod Timing
 pub mod Machine
 pub mod History
 pub mod Law
+pub mod Worked

@@ -5,6 +5,7 @@ ghost use Rattle.std.specs.Of.Vec.{vec-items};
 ghost use Rattle.std.specs.Results.{Cases};
 ghost use Rattle.refusal.specs.declared.Refusal.the-variants.{OutOfMemory};
 ghost use Rattle.frame.specs.History.{call-state, call-source, call-answer};
+ghost use Rattle.frame.specs.Law.{Harmless};
 ghost use Rattle.console.specs.Model.{state-of};
 ghost use Rattle.console.specs.Playing.{told, Played, Lawful};
 use crate::state::Console;
@@ -55,6 +56,7 @@ impl Console {
             (λ _. Lawful (state-of (now (self .entry))) (means (now (source .entry))) (now (calls .entry)) (vec-items (now (answers .entry)))
                 (state-of (now (self .exit))) (vec-items (now (answers .exit))))
             (λ _. Unit {0}) ⌝ }
+        ensures harmless { λ _. ⌜ Harmless ⌝ }
     {
         answers.reserve(calls.len())?;
         for call in calls {
