@@ -21,29 +21,45 @@ use Rattle.console.specs.Steps.{with, interrupted, frame-opened, row-opened, r
 pub framed : (c : Shape) (ve : Bool) (b b₂ : Bursts) (k : Core) (f : Buffer) (i : Bool) (s : Shown)
     → f ≡ fresh (c .h) i false s → i ≡ idle c 1 → s ≡ nothing → b₂ ≡ cond ve b (k .bursts)
     → _≡_ {A = Core}
-        (record { row = k .row; line = k .line; column = k .column; blink = k .blink; armed = ve; dark = false; bursts = b₂; gap = 0; fill = f; shown = k .shown })
-        (prepared c ve b frame-start k)
+    (record { row = k .row; line = k .line; column = k .column; blink = k .blink; armed = ve; dark = false; bursts = b₂; gap = 0; fill = f; shown = k .shown })
+    (prepared c ve b frame-start k)
 unfolding prepared
 framed c ve b b₂ k f i s e p q r = rw (e, p, q, r) refl
 
 pub rowed : (c : Shape) (ve : Bool) (b : Bursts) (k : Core) (f : Buffer) (i late : Bool)
     → f ≡ fresh (c .h) i (k .fill .take .over) (k .fill .show) → i ≡ idle c (k .row + 1) → late ≡ underrun k
     → _≡_ {A = Core}
-        (record {
-            row = k .row; line = k .line; column = k .column; blink = k .blink; armed = k .armed; dark = k .dark || late; bursts = k .bursts; gap = 0;
-            fill = f; shown = k .fill .show
-        })
-        (prepared c ve b row-start k)
+    (record {
+      row = k .row;
+      line = k .line;
+      column = k .column;
+      blink = k .blink;
+      armed = k .armed;
+      dark = k .dark || late;
+      bursts = k .bursts;
+      gap = 0;
+      fill = f;
+      shown = k .fill .show;
+    })
+    (prepared c ve b row-start k)
 unfolding prepared
 rowed c ve b k f i late e p q = let z : idle c (k .row + 1) ≡ idle c (suc (k .row)) = rw add-one refl in rw (e, p, z, q) refl
 
 pub fed-none : (c : Shape) (k : Core) (came : Option ℕ) (gap : ℕ) → came ≡ None → gap ≡ k .gap - 1
     → _≡_ {A = Core}
-        (record {
-            row = k .row; line = k .line; column = k .column; blink = k .blink; armed = k .armed; dark = k .dark; bursts = k .bursts; gap = gap;
-            fill = k .fill; shown = k .shown
-        })
-        (fed c k came)
+    (record {
+      row = k .row;
+      line = k .line;
+      column = k .column;
+      blink = k .blink;
+      armed = k .armed;
+      dark = k .dark;
+      bursts = k .bursts;
+      gap = gap;
+      fill = k .fill;
+      shown = k .shown;
+    })
+    (fed c k came)
 unfolding fed
 fed-none c k came gap e g = rw (e, g) refl
 
@@ -59,37 +75,61 @@ not-full false came x h e = refl
 pub fed-some : (c : Shape) (k : Core) (came : Option ℕ) (x gap : ℕ) (f : Buffer) → (full (k .fill .take) ≡ true → came ≡ None) → came ≡ Some x
     → f ≡ cond (full (k .fill .take)) (k .fill) (eat (c .f) (k .bursts .n) (k .fill) x) → gap ≡ pause (k .bursts) (f .take .taken)
     → _≡_ {A = Core}
-        (record {
-            row = k .row; line = k .line; column = k .column; blink = k .blink; armed = k .armed; dark = k .dark; bursts = k .bursts; gap = gap;
-            fill = f; shown = k .shown
-        })
-        (fed c k came)
+    (record {
+      row = k .row;
+      line = k .line;
+      column = k .column;
+      blink = k .blink;
+      armed = k .armed;
+      dark = k .dark;
+      bursts = k .bursts;
+      gap = gap;
+      fill = f;
+      shown = k .shown;
+    })
+    (fed c k came)
 unfolding fed
 fed-some c k came x gap f h e p q =
     let nf = not-full (full (k .fill .take)) came x h e in
     let p₂ : f ≡ eat (c .f) (k .bursts .n) (k .fill) x = p ∙ (rw nf refl) in
     let q₂ : gap ≡ pause (k .bursts) (suc (k .fill .take .taken)) =
-        q ∙ ap (λ (y : Buffer). pause (k .bursts) (y .take .taken)) p₂ ∙ ap (pause (k .bursts)) (taken-eat (c .f) (k .bursts .n) (k .fill) x) in
+    q ∙ ap (λ (y : Buffer). pause (k .bursts) (y .take .taken)) p₂ ∙ ap (pause (k .bursts)) (taken-eat (c .f) (k .bursts .n) (k .fill) x) in
     rw (e, p₂, q₂) refl
 
 -- where the counters go
 pub goes-in-line : (c : Shape) (k : Core) → k .column + 1 < c .h + c .z
     → _≡_ {A = Core}
-        (record {
-            row = k .row; line = k .line; column = k .column + 1; blink = k .blink; armed = k .armed; dark = k .dark; bursts = k .bursts; gap = k .gap;
-            fill = k .fill; shown = k .shown
-        })
-        (moved (turn c (k .row) (k .line) (k .column)) k)
+    (record {
+      row = k .row;
+      line = k .line;
+      column = k .column + 1;
+      blink = k .blink;
+      armed = k .armed;
+      dark = k .dark;
+      bursts = k .bursts;
+      gap = k .gap;
+      fill = k .fill;
+      shown = k .shown;
+    })
+    (moved (turn c (k .row) (k .line) (k .column)) k)
 unfolding moved
 goes-in-line c k a = let t : ltb (suc (k .column)) (width c) ≡ true = grind (arith, tells) in rw (t, add-one) refl
 
 pub goes-new-line : (c : Shape) (k : Core) → c .h + c .z ≤ k .column + 1 → k .line + 1 < c .l
     → _≡_ {A = Core}
-        (record {
-            row = k .row; line = k .line + 1; column = 0; blink = k .blink; armed = k .armed; dark = k .dark; bursts = k .bursts; gap = k .gap;
-            fill = k .fill; shown = k .shown
-        })
-        (moved (turn c (k .row) (k .line) (k .column)) k)
+    (record {
+      row = k .row;
+      line = k .line + 1;
+      column = 0;
+      blink = k .blink;
+      armed = k .armed;
+      dark = k .dark;
+      bursts = k .bursts;
+      gap = k .gap;
+      fill = k .fill;
+      shown = k .shown;
+    })
+    (moved (turn c (k .row) (k .line) (k .column)) k)
 unfolding moved
 goes-new-line c k a b =
     let t : ltb (suc (k .column)) (width c) ≡ false = grind (arith, tells) in
@@ -98,11 +138,19 @@ goes-new-line c k a b =
 
 pub goes-new-row : (c : Shape) (k : Core) → c .h + c .z ≤ k .column + 1 → c .l ≤ k .line + 1 → k .row + 1 < c .r + c .v
     → _≡_ {A = Core}
-        (record {
-            row = k .row + 1; line = 0; column = 0; blink = k .blink; armed = k .armed; dark = k .dark; bursts = k .bursts; gap = k .gap;
-            fill = k .fill; shown = k .shown
-        })
-        (moved (turn c (k .row) (k .line) (k .column)) k)
+    (record {
+      row = k .row + 1;
+      line = 0;
+      column = 0;
+      blink = k .blink;
+      armed = k .armed;
+      dark = k .dark;
+      bursts = k .bursts;
+      gap = k .gap;
+      fill = k .fill;
+      shown = k .shown;
+    })
+    (moved (turn c (k .row) (k .line) (k .column)) k)
 unfolding moved
 goes-new-row c k a b d =
     let t : ltb (suc (k .column)) (width c) ≡ false = grind (arith, tells) in
@@ -112,11 +160,19 @@ goes-new-row c k a b d =
 
 pub goes-new-frame : (c : Shape) (k : Core) → c .h + c .z ≤ k .column + 1 → c .l ≤ k .line + 1 → c .r + c .v ≤ k .row + 1
     → _≡_ {A = Core}
-        (record {
-            row = 0; line = 0; column = 0; blink = (k .blink + 1) % 32; armed = k .armed; dark = k .dark; bursts = k .bursts; gap = k .gap;
-            fill = k .fill; shown = k .shown
-        })
-        (moved (turn c (k .row) (k .line) (k .column)) k)
+    (record {
+      row = 0;
+      line = 0;
+      column = 0;
+      blink = (k .blink + 1) % 32;
+      armed = k .armed;
+      dark = k .dark;
+      bursts = k .bursts;
+      gap = k .gap;
+      fill = k .fill;
+      shown = k .shown;
+    })
+    (moved (turn c (k .row) (k .line) (k .column)) k)
 unfolding moved
 goes-new-frame c k a b d =
     let t : ltb (suc (k .column)) (width c) ≡ false = grind (arith, tells) in
@@ -159,10 +215,10 @@ pub unwanted : (k : Core) (m : Meaning) (came : Option ℕ) (w : Bool) → w ≡
 unfolding wants
 unwanted k m came w e p h =
     let none : wants k ≡ false =
-        ⊎-elim
-        (λ (a : k .armed ≡ true). ⊎-elim (λ (d : k .dark ≡ true). rw (a, d) refl) (λ (d : k .dark ≡ false). rw (a, d, h) refl) (cases-bool (k .dark)))
-        (λ (a : k .armed ≡ false). rw a refl)
-        (cases-bool (k .armed)) in
+    ⊎-elim
+    (λ (a : k .armed ≡ true). ⊎-elim (λ (d : k .dark ≡ true). rw (a, d) refl) (λ (d : k .dark ≡ false). rw (a, d, h) refl) (cases-bool (k .dark)))
+    (λ (a : k .armed ≡ false). rw a refl)
+    (cases-bool (k .armed)) in
     p ∙ (rw (e, none) refl)
 
 -- a whole clock
@@ -182,7 +238,7 @@ clocks c s s₁ s₂ m m₁ m₂ k₃ wanted came w e₁ f₁ ew en ec f₂ e₂
     let s₂-is : s₂ ≡ stored c (readied c s) (answer (ready-source s m) (wants (ready-core c s))) = e₂ ∙ (rw (e₁, y) refl) in
     let whole : with s₂ k₃ (s₂ .flags) ≡ with s₂ (moved (turn c (s₂ .core .row) (s₂ .core .line) (s₂ .core .column)) (s₂ .core)) (s₂ .flags) = rw e₃ refl in
     record {
-        state = whole ∙ ap (λ (x : State). with x (moved (turn c (x .core .row) (x .core .line) (x .core .column)) (x .core)) (x .flags)) s₂-is;
-        source = f₂ ∙ (rw (f₁, n) refl);
-        word = ew ∙ ap (λ (x : State). word c (x .cursor) (x .flags .ir) (x .core)) e₁
+      state = whole ∙ ap (λ (x : State). with x (moved (turn c (x .core .row) (x .core .line) (x .core .column)) (x .core)) (x .flags)) s₂-is;
+      source = f₂ ∙ (rw (f₁, n) refl);
+      word = ew ∙ ap (λ (x : State). word c (x .cursor) (x .flags .ir) (x .core)) e₁;
     }

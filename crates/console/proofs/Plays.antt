@@ -75,11 +75,11 @@ on-more xs x cs s s₂ m m₂ out out₂ cs₀ s₀ m₀ out₀ on e es em eo =
     let rest : List Answer = answers (over cs (call-state x s m) (call-source x s m)) (call-state x s m) in
     rw (es, em, eo)
     (record {
-        state = sym (after-more x cs s m) ∙ ap (λ (ys : List Call). after (over ys s m) s) (sym e) ∙ on .state;
-        source = sym (source-more x cs s m) ∙ ap (λ (ys : List Call). source-after ys s m) (sym e) ∙ on .source;
-        all = append-assoc out (call-answer x s ∷ []) rest
-            ∙ ap (λ (ws : List Answer). out ++ ws) (sym (answers-more x cs s m) ∙ ap (λ (ys : List Call). answers (over ys s m) s) (sym e))
-            ∙ on .all
+      state = sym (after-more x cs s m) ∙ ap (λ (ys : List Call). after (over ys s m) s) (sym e) ∙ on .state;
+      source = sym (source-more x cs s m) ∙ ap (λ (ys : List Call). source-after ys s m) (sym e) ∙ on .source;
+      all = append-assoc out (call-answer x s ∷ []) rest
+          ∙ ap (λ (ws : List Answer). out ++ ws) (sym (answers-more x cs s m) ∙ ap (λ (ys : List Call). answers (over ys s m) s) (sym e))
+          ∙ on .all;
     })
 
 pub on-end :
@@ -125,9 +125,9 @@ unfolding clock-source ready-source
 foretold-on c page free t rest s m f =
     let b = begun-page (opening (s .core .row) (s .core .line) (s .core .column)) (s .control .ve) m in
     record {
-        page-is = b .0 ∙ f .page-is;
-        free-is = λ i. b .1 (suc i) ∙ f .free-is (suc i) ∙ ap free (omega arith);
-        rest-is = λ _. refl
+      page-is = b .0 ∙ f .page-is;
+      free-is = λ i. b .1 (suc i) ∙ f .free-is (suc i) ∙ ap free (omega arith);
+      rest-is = λ _. refl;
     }
 
 kept-shape : (c : Shape) (s : State) (m : Meaning) → clock-state c s m .shape ≡ s .shape
@@ -149,7 +149,7 @@ thread-call : (c : Shape) (page : List ℕ) (free : ℕ → Bool) (x : Call) (cs
     → (t : ℕ) (rest : List ℕ) (s : State) (m : Meaning) → s .shape ≡ Some c → Foretold page free t rest m
     → Quiet-call x s (call-state x s m) → Quiet (over cs (call-state x s m) (call-source x s m)) (call-state x s m)
     → Found-by x page free t rest m
-      × Found page free (clock-count x + t) (rest-by x rest (call-source x s m)) (over cs (call-state x s m) (call-source x s m)) (call-state x s m)
+    × Found page free (clock-count x + t) (rest-by x rest (call-source x s m)) (over cs (call-state x s m) (call-source x s m)) (call-state x s m)
 unfolding call-source
 thread-call c page free (Command b) cs ih t rest s m e f a q = (tt, thread-quiet c page free cs ih t rest s _ m e f a q)
 thread-call c page free (Parameter b) cs ih t rest s m e f a q = (tt, thread-quiet c page free cs ih t rest s _ m e f a q)
@@ -161,7 +161,7 @@ thread-call c page free Clock cs ih t rest s m e f a q =
     let st : call-state Clock s m ≡ clock-state c s m = clock-is s m c e in
     let shape₂ : call-state Clock s m .shape ≡ Some c = ap (λ (x : State). x .shape) st ∙ kept-shape c s m ∙ e in
     let g : Foretold page free (1 + t) (source-by (s .shape) s m .rest) (source-by (s .shape) s m) =
-        subst (λ (m₂ : Meaning). Foretold page free (1 + t) (m₂ .rest) m₂) (sym src) (foretold-on c page free t rest s m f) in
+    subst (λ (m₂ : Meaning). Foretold page free (1 + t) (m₂ .rest) m₂) (sym src) (foretold-on c page free t rest s m f) in
     (found-here page free t rest m f, ih (1 + t) (source-by (s .shape) s m .rest) (call-state Clock s m) (source-by (s .shape) s m) shape₂ g q)
   where
     clock-is : (s : State) (m : Meaning) (c : Shape) → s .shape ≡ Some c → call-state Clock s m ≡ clock-state c s m
@@ -187,21 +187,21 @@ pub lawful : (s : State) (m : Meaning) (cs : List Call) (out : List Answer) (e :
 lawful s m cs out e m₂ out₂ p =
     let tail : drop (length out) out₂ ≡ answers (over cs s m) s = ap (drop (length out)) (p .answers-are) ∙ drop-behind out (answers (over cs s m) s) in
     record {
-        alone = λ h c is r q room.
-            let r₂ : Ready c (after h new) = subst (Ready c) is r in
-            let q₂ : Quiet (over cs s m) (after h new) = subst (Quiet (over cs s m)) is q in
-            let f : Found (m .page) (m .free) 0 [] (over cs s m) (after h new) =
-                subst (Found (m .page) (m .free) 0 [] (over cs s m)) is
-                    (thread c (m .page) (m .free) cs 0 [] s m (r .composed) (record { page-is = refl; free-is = λ i. ap (m .free) (omega arith); rest-is = λ lt. absurd (omega arith) }) q) in
-            let l = frame-law c h (over cs s m) (m .page) (m .free) r₂ q₂ f room in
-            rw (p .state, tail) (subst (λ (x : State). Law c x (m .page) (m .free) (clocks (over cs s m)) (after (over cs s m) x) (words (answers (over cs s m) x))) (sym is) l);
-        resumed = λ h es c page free is r q f room.
-            let l = frame-law c h (es ++ over cs s m) page free r q f room in
-            let a : after (es ++ over cs s m) (after h new) ≡ e = after-append es (over cs s m) (after h new) ∙ ap (after (over cs s m)) (sym is) ∙ sym (p .state) in
-            let b : answers (es ++ over cs s m) (after h new) ≡ answers es (after h new) ++ drop (length out) out₂ =
-                answers-append es (over cs s m) (after h new)
-                ∙ ap (λ (x : State). answers es (after h new) ++ answers (over cs s m) x) (sym is)
-                ∙ ap (λ (l : List Answer). answers es (after h new) ++ l) (sym tail) in
-            subst (λ (x : State). Law c (after h new) page free (clocks (es ++ over cs s m)) x (words (answers es (after h new) ++ drop (length out) out₂))) a
-                (subst (λ (y : List Answer). Law c (after h new) page free (clocks (es ++ over cs s m)) (after (es ++ over cs s m) (after h new)) (words y)) b l)
+      alone = λ h c is r q room.
+          let r₂ : Ready c (after h new) = subst (Ready c) is r in
+          let q₂ : Quiet (over cs s m) (after h new) = subst (Quiet (over cs s m)) is q in
+          let f : Found (m .page) (m .free) 0 [] (over cs s m) (after h new) =
+          subst (Found (m .page) (m .free) 0 [] (over cs s m)) is
+          (thread c (m .page) (m .free) cs 0 [] s m (r .composed) (record { page-is = refl; free-is = λ i. ap (m .free) (omega arith); rest-is = λ lt. absurd (omega arith) }) q) in
+          let l = frame-law c h (over cs s m) (m .page) (m .free) r₂ q₂ f room in
+          rw (p .state, tail) (subst (λ (x : State). Law c x (m .page) (m .free) (clocks (over cs s m)) (after (over cs s m) x) (words (answers (over cs s m) x))) (sym is) l);
+      resumed = λ h es c page free is r q f room.
+          let l = frame-law c h (es ++ over cs s m) page free r q f room in
+          let a : after (es ++ over cs s m) (after h new) ≡ e = after-append es (over cs s m) (after h new) ∙ ap (after (over cs s m)) (sym is) ∙ sym (p .state) in
+          let b : answers (es ++ over cs s m) (after h new) ≡ answers es (after h new) ++ drop (length out) out₂ =
+          answers-append es (over cs s m) (after h new)
+          ∙ ap (λ (x : State). answers es (after h new) ++ answers (over cs s m) x) (sym is)
+          ∙ ap (λ (l : List Answer). answers es (after h new) ++ l) (sym tail) in
+          subst (λ (x : State). Law c (after h new) page free (clocks (es ++ over cs s m)) x (words (answers es (after h new) ++ drop (length out) out₂))) a
+          (subst (λ (y : List Answer). Law c (after h new) page free (clocks (es ++ over cs s m)) (after (es ++ over cs s m) (after h new)) (words y)) b l);
     }

@@ -15,9 +15,11 @@ shape-in (Some c) = Some (shape-of c)
 abbrev pub state-of : Console → State
 state-of c =
     record {
-        shape = shape-in (c .composition);
-        control = record { ve = c .ve; ie = c .ie; bursts = bursts-of (c .burst) };
-        cursor = c .cursor; pending = c .pending;
-        core = core-of (c .raster);
-        flags = c .flags; pen = c .pen
+      shape = shape-in (c .composition);
+      control = record { ve = c .ve; ie = c .ie; bursts = bursts-of (c .burst) };
+      cursor = c .cursor;
+      pending = c .pending;
+      core = core-of (c .raster);
+      flags = c .flags;
+      pen = c .pen;
     }

@@ -31,12 +31,12 @@ pub record Played (s : State) (m : Meaning) (cs : List Call) (out : List Answer)
 pub record Lawful (s : State) (m : Meaning) (cs : List Call) (out : List Answer) (e : State) (out₂ : List Answer) : Type 0 where
   -- of calls that begin at the first clock of an armed frame and stay inside it: page and bus are the source's at the first clock
   pub alone :
-    (h : List Moment) (c : Shape) → s ≡ after h new → Ready c s → Quiet (over cs s m) s → clocks (over cs s m) ≤ (c .h + c .z) * c .l * (c .r + c .v)
-    → Law c s (m .page) (m .free) (clocks (over cs s m)) e (words (drop (length out) out₂))
+      (h : List Moment) (c : Shape) → s ≡ after h new → Ready c s → Quiet (over cs s m) s → clocks (over cs s m) ≤ (c .h + c .z) * c .l * (c .r + c .v)
+      → Law c s (m .page) (m .free) (clocks (over cs s m)) e (words (drop (length out) out₂))
   -- of calls that go on in a frame which began in earlier calls, whatever happened to the source between the clocks, as long as each clock
   -- found the rest that the clock before left: page and bus are what the frame's clocks found
   pub resumed :
-    (h es : List Moment) (c : Shape) (page : List ℕ) (free : ℕ → Bool) → s ≡ after es (after h new) → Ready c (after h new)
-    → Quiet (es ++ over cs s m) (after h new) → Found page free 0 [] (es ++ over cs s m) (after h new)
-    → clocks (es ++ over cs s m) ≤ (c .h + c .z) * c .l * (c .r + c .v)
-    → Law c (after h new) page free (clocks (es ++ over cs s m)) e (words (answers es (after h new) ++ drop (length out) out₂))
+      (h es : List Moment) (c : Shape) (page : List ℕ) (free : ℕ → Bool) → s ≡ after es (after h new) → Ready c (after h new)
+      → Quiet (es ++ over cs s m) (after h new) → Found page free 0 [] (es ++ over cs s m) (after h new)
+      → clocks (es ++ over cs s m) ≤ (c .h + c .z) * c .l * (c .r + c .v)
+      → Law c (after h new) page free (clocks (es ++ over cs s m)) e (words (answers es (after h new) ++ drop (length out) out₂))

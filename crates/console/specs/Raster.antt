@@ -6,6 +6,14 @@ use Rattle.console.specs.declared.raster.Raster.{Raster}
 abbrev pub core-of : Raster → Core
 core-of k =
     record {
-        row = k .row; line = k .line; column = k .column; blink = k .blink; armed = k .armed; dark = k .dark; bursts = bursts-of (k .burst); gap = k .gap;
-        fill = buffer-of (k .fill); shown = shown-of (k .shown)
+      row = k .row;
+      line = k .line;
+      column = k .column;
+      blink = k .blink;
+      armed = k .armed;
+      dark = k .dark;
+      bursts = bursts-of (k .burst);
+      gap = k .gap;
+      fill = buffer-of (k .fill);
+      shown = shown-of (k .shown);
     }

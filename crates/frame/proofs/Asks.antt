@@ -37,10 +37,10 @@ asked-now free end b base t k (suc m) lt o h =
     ⊎-elim
     (λ (l : k < m). let i = asked-now free end b base t k m l o h in grind (arith, tells))
     (λ (g : m ≤ k).
-        let e : m ≡ k = omega arith in
-        let x : leb (opens free end b base m) t ≡ true = rw e (le-leb _ t o) in
-        let y : leb t (takes free end b base m) ≡ true = rw e (le-leb t _ h) in
-        grind (arith, tells))
+    let e : m ≡ k = omega arith in
+    let x : leb (opens free end b base m) t ≡ true = rw e (le-leb _ t o) in
+    let y : leb t (takes free end b base m) ≡ true = rw e (le-leb t _ h) in
+    grind (arith, tells))
     (cases-lt k m)
 
 -- in one: the byte behind k others is asked for as soon as the gap is over

@@ -49,10 +49,15 @@ wait :
     → Filling c b page free i (suc t) (gap - 1) fill rest
 wait c b page free i t gap fill rest h e =
     record {
-        place = h .place; over = h .over; above = h .above; stands = h .stands; same = h .same; count = h .count;
-        opened = (let g = h .opened in omega arith);
-        due = λ some nf. h .due some nf ∙ e some nf;
-        past = λ j lt. let g = h .past j lt in omega arith
+      place = h .place;
+      over = h .over;
+      above = h .above;
+      stands = h .stands;
+      same = h .same;
+      count = h .count;
+      opened = (let g = h .opened in omega arith);
+      due = λ some nf. h .due some nf ∙ e some nf;
+      past = λ j lt. let g = h .past j lt in omega arith;
     }
 
 -- one clock of the row's taking
@@ -69,9 +74,9 @@ step c b page free i t k true false rest h e fr lt eb =
     let z : k .gap ≡ 0 = grind (arith, tells) in
     wait c b page free i t (k .gap) (k .fill) rest h
     (λ some nf.
-        let a : t + k .gap ≡ t = omega arith in
-        let a₂ : suc t + (k .gap - 1) ≡ suc t = omega arith in
-        rw (a, a₂) (first-miss free (total c) t lt fr))
+    let a : t + k .gap ≡ t = omega arith in
+    let a₂ : suc t + (k .gap - 1) ≡ suc t = omega arith in
+    rw (a, a₂) (first-miss free (total c) t lt fr))
 step c b page free i t k true true [] h e fr lt eb =
     wait c b page free i t (k .gap) (k .fill) [] h (λ some nf. absurd (omega arith))
 step c b page free i t k true true (x ∷ xs) h e fr lt eb =
@@ -84,15 +89,18 @@ step c b page free i t k true true (x ∷ xs) h e fr lt eb =
     let same-pause : pause (k .bursts) (suc n) ≡ pause b (suc n) = ap (λ (u : Bursts). pause u (suc n)) eb in
     let same-eat : eat (c .f) (k .bursts .n) (k .fill) x ≡ eat (c .f) (b .n) (k .fill) x = ap (λ (u : Bursts). eat (c .f) (u .n) (k .fill) x) eb in
     record {
-        place = h .place; over = h .over; above = h .above; stands = h .stands;
-        same = ap (λ (u : Buffer). reads (c .f) (b .n) u xs) same-eat ∙ sym (reads-more (c .f) (b .n) (k .fill) x xs nf) ∙ h .same;
-        count = (let q = h .count in omega arith);
-        opened = rw (more, next, same-pause) (omega arith);
-        due = λ some nf₂. rw (more, same-pause) (takes-is free (total c) b (i * span c) (suc n) ∙ ap (first-free free (total c)) next);
-        past = λ j lt₂. ⊎-elim
-            (λ (l : j < n). let g = h .past j l in omega arith)
-            (λ (g : n ≤ j). let q : j ≡ n = omega arith in rw q (omega (arith, here)))
-            (cases-lt j n)
+      place = h .place;
+      over = h .over;
+      above = h .above;
+      stands = h .stands;
+      same = ap (λ (u : Buffer). reads (c .f) (b .n) u xs) same-eat ∙ sym (reads-more (c .f) (b .n) (k .fill) x xs nf) ∙ h .same;
+      count = (let q = h .count in omega arith);
+      opened = rw (more, next, same-pause) (omega arith);
+      due = λ some nf₂. rw (more, same-pause) (takes-is free (total c) b (i * span c) (suc n) ∙ ap (first-free free (total c)) next);
+      past = λ j lt₂. ⊎-elim
+          (λ (l : j < n). let g = h .past j l in omega arith)
+          (λ (g : n ≤ j). let q : j ≡ n = omega arith in rw q (omega (arith, here)))
+          (cases-lt j n);
     }
 
 -- a reading is there or not
@@ -111,8 +119,8 @@ reads-up f n x (a ∷ xs) r e =
     ⊎-elim
     (λ (h : full (x .take) ≡ true). let w = sym (reads-full f n x (a ∷ xs) h) ∙ e in let q : x .take .taken ≡ r .taken = cc in omega arith)
     (λ (h : full (x .take) ≡ false).
-        let i = reads-up f n (eat f n x a) xs r (sym (reads-more f n x a xs h) ∙ e) in
-        omega (arith, taken-eat f n x a))
+    let i = reads-up f n (eat f n x a) xs r (sym (reads-more f n x a xs h) ∙ e) in
+    omega (arith, taken-eat f n x a))
     (cases-bool (full (x .take)))
 
 -- a row that is not full and finds its bytes takes one more
@@ -147,15 +155,15 @@ pub read :
 read c b page free i t gap fill rest h y =
     let r : Reading = record { taken = fill .take .taken; over = fill .take .over; show = fill .show; left = rest } in
     let e : reads (c .f) (b .n) (fresh (c .h) (blank c (suc i)) (h .over) (h .above)) (drop (h .place) page) ≡ Some r =
-        sym (h .same) ∙ reads-full (c .f) (b .n) fill rest y in
+    sym (h .same) ∙ reads-full (c .f) (b .n) fill rest y in
     let g = row-step c (b .n) page i (h .place) (blank c (suc i)) (h .over) (h .above) r (h .stands) refl e in
     let l = row-left c (b .n) (drop (h .place) page) (blank c (suc i)) (h .over) (h .above) r e in
     record {
-        from = h .place + fill .take .taken;
-        stands = g .0;
-        columns = g .1;
-        rest-is = l ∙ drop-drop (fill .take .taken) (h .place) page;
-        taken-is = g .3
+      from = h .place + fill .take .taken;
+      stands = g .0;
+      columns = g .1;
+      rest-is = l ∙ drop-drop (fill .take .taken) (h .place) page;
+      taken-is = g .3;
     }
 
 -- a row time has ended: the row is late unless its buffer is full
@@ -168,17 +176,22 @@ ended c b page free i t gap fill rest h e = ⊎-elim whole short (cases-bool (fu
   where
     base : ℕ
     base = i * span c
+
     k : ℕ
     k = fill .take .taken
+
     start : Buffer
     start = fresh (c .h) (blank c (suc i)) (h .over) (h .above)
+
     Goal : Type 0
     Goal = late c b page free (suc i) ≡ not (full (fill .take))
+
     whole : full (fill .take) ≡ true → Goal
     whole y =
         let g = read c b page free i t gap fill rest h y in
         let o = overdue-not free (total c) b base (suc i * span c) k (λ j lt. let p = h .past j lt in omega arith) in
         rw (g .stands .whole, g .taken-is, o, y) refl
+
     there : full (fill .take) ≡ false → (r : Reading) × (reads (c .f) (b .n) start (drop (h .place) page) ≡ Some r) → Goal
     there y r =
         let g = row-step c (b .n) page i (h .place) (blank c (suc i)) (h .over) (h .above) (r .0) (h .stands) refl (r .1) in
@@ -188,8 +201,10 @@ ended c b page free i t gap fill rest h e = ⊎-elim whole short (cases-bool (fu
         let many : row c (b .n) page (suc i) .taken ≡ r .0 .taken = g .3 in
         let o = overdue-yes free (total c) b base (suc i * span c) k (r .0 .taken) (p .0) (omega arith) in
         rw (g .0 .whole, many, o, y) refl
+
     lack : full (fill .take) ≡ false → reads (c .f) (b .n) start (drop (h .place) page) ≡ None → Goal
     lack y n = let w = row-short c (b .n) page i (h .place) (blank c (suc i)) (h .over) (h .above) (h .stands) refl n in rw (w, y) refl
+
     short : full (fill .take) ≡ false → Goal
     short y = ⊎-elim (lack y) (there y) (cases-reading (reads (c .f) (b .n) start (drop (h .place) page)))
 
@@ -206,12 +221,15 @@ unfolding opens takes
 began c b page free i t place over above rest e s q =
     let n = fresh-taken (c .h) (blank c (suc i)) over above in
     record {
-        place = place; over = over; above = above; stands = s;
-        same = rw q refl;
-        count = rw (n, q) (omega arith);
-        opened = rw n (omega arith);
-        due = λ _ _. rw n (ap (first-free free (total c)) (omega arith));
-        past = λ j lt. absurd (omega arith)
+      place = place;
+      over = over;
+      above = above;
+      stands = s;
+      same = rw q refl;
+      count = rw (n, q) (omega arith);
+      opened = rw n (omega arith);
+      due = λ _ _. rw n (ap (first-free free (total c)) (omega arith));
+      past = λ j lt. absurd (omega arith);
     }
 
 -- the request line, by the rules of taking
@@ -219,37 +237,47 @@ pub asks :
     (c : Shape) (b : Bursts) (page : List ℕ) (free : ℕ → Bool) (i t gap : ℕ) (fill : Buffer) (rest : List ℕ)
     → Filling c b page free i t gap fill rest
     → (not (full (fill .take)) && eqb gap 0)
-      ≡ asked-of free (total c) b (i * span c) t (row c (b .n) page (suc i) .whole) (row c (b .n) page (suc i) .taken) (length page - row c (b .n) page (suc i) .place)
+    ≡ asked-of free (total c) b (i * span c) t (row c (b .n) page (suc i) .whole) (row c (b .n) page (suc i) .taken) (length page - row c (b .n) page (suc i) .place)
 asks c b page free i t gap fill rest h = ⊎-elim whole short (cases-bool (full (fill .take)))
   where
     base : ℕ
     base = i * span c
+
     k : ℕ
     k = fill .take .taken
+
     start : Buffer
     start = fresh (c .h) (blank c (suc i)) (h .over) (h .above)
+
     Goal : Type 0
     Goal = (not (full (fill .take)) && eqb gap 0)
-      ≡ asked-of free (total c) b base t (row c (b .n) page (suc i) .whole) (row c (b .n) page (suc i) .taken) (length page - row c (b .n) page (suc i) .place)
+        ≡ asked-of free (total c) b base t (row c (b .n) page (suc i) .whole) (row c (b .n) page (suc i) .taken) (length page - row c (b .n) page (suc i) .place)
+
     at : row c (b .n) page (suc i) .place ≡ h .place
     at = place-next c (b .n) page i ∙ sym (h .stands .at)
+
     there-are : length page - row c (b .n) page (suc i) .place ≡ k + length rest
     there-are = rw at (sym (length-drop (h .place) page) ∙ sym (h .count))
+
     reach : 0 < length rest → full (fill .take) ≡ false → t ≤ takes free (total c) b base k
     reach some y = let d = h .due some y in let a = first-from free (total c) (t + gap) in omega arith
+
     whole : full (fill .take) ≡ true → Goal
     whole y =
         let g = read c b page free i t gap fill rest h y in
         rw (g .stands .whole, g .taken-is, y) (sym (asked-past free (total c) b base t k (h .past)))
+
     there : full (fill .take) ≡ false → (r : Reading) × (reads (c .f) (b .n) start (drop (h .place) page) ≡ Some r) → Goal
     there y r =
         let g = row-step c (b .n) page i (h .place) (blank c (suc i)) (h .over) (h .above) (r .0) (h .stands) refl (r .1) in
         let p = reads-past (c .f) (b .n) fill rest (r .0) y (h .same ∙ r .1) in
         rw (g .0 .whole, g .3, y) (sym (asked-is free (total c) b base t k (r .0 .taken) gap (h .past) (h .opened) (p .0) (reach (p .1) y)))
+
     none-left : length rest ≡ 0 → (asked free (total c) b base t (k + length rest) || leb (opens free (total c) b base (k + length rest)) t) ≡ eqb gap 0
     none-left z =
         let s : k + length rest ≡ k = omega arith in
         rw (s, asked-past free (total c) b base t k (h .past)) (open-is (opens free (total c) b base k) t gap (h .opened))
+
     some-left : full (fill .take) ≡ false → 0 < length rest → (asked free (total c) b base t (k + length rest) || leb (opens free (total c) b base (k + length rest)) t) ≡ eqb gap 0
     some-left y some =
         let a = asked-is free (total c) b base t k (k + length rest) gap (h .past) (h .opened) (omega arith) (reach some y) in
@@ -259,9 +287,11 @@ asks c b page free i t gap fill rest h = ⊎-elim whole short (cases-bool (full 
         (λ (z : eqb gap 0 ≡ true). rw (a, z) refl)
         (λ (z : eqb gap 0 ≡ false). let l : leb (opens free (total c) b base (k + length rest)) t ≡ false = grind (arith, tells) in rw (a, z, l) refl)
         (cases-bool (eqb gap 0))
+
     lack : full (fill .take) ≡ false → reads (c .f) (b .n) start (drop (h .place) page) ≡ None → Goal
     lack y n =
         let w = row-short c (b .n) page i (h .place) (blank c (suc i)) (h .over) (h .above) (h .stands) refl n in
         rw (w, y, there-are) (sym (⊎-elim (λ (s : 0 < length rest). some-left y s) (λ (z : length rest ≤ 0). none-left (omega arith)) (cases-lt 0 (length rest))))
+
     short : full (fill .take) ≡ false → Goal
     short y = ⊎-elim (lack y) (there y) (cases-reading (reads (c .f) (b .n) start (drop (h .place) page)))

@@ -61,14 +61,14 @@ turn-says c row line column =
     ⊎-elim
     (λ (a : suc column < width c). rw (lt-ltb (suc column) (width c) a) a)
     (λ (a : width c ≤ suc column). rw (le-ltb (suc column) (width c) a)
-        (⊎-elim
-        (λ (b : suc line < c .l). rw (lt-ltb (suc line) (c .l) b) (a, b))
-        (λ (b : c .l ≤ suc line). rw (le-ltb (suc line) (c .l) b)
-            (⊎-elim
-            (λ (e : suc row < c .r + c .v). rw (lt-ltb (suc row) (c .r + c .v) e) (a, b, e))
-            (λ (e : c .r + c .v ≤ suc row). rw (le-ltb (suc row) (c .r + c .v) e) (a, b, e))
-            (cases-lt (suc row) (c .r + c .v))))
-        (cases-lt (suc line) (c .l))))
+    (⊎-elim
+    (λ (b : suc line < c .l). rw (lt-ltb (suc line) (c .l) b) (a, b))
+    (λ (b : c .l ≤ suc line). rw (le-ltb (suc line) (c .l) b)
+    (⊎-elim
+    (λ (e : suc row < c .r + c .v). rw (lt-ltb (suc row) (c .r + c .v) e) (a, b, e))
+    (λ (e : c .r + c .v ≤ suc row). rw (le-ltb (suc row) (c .r + c .v) e) (a, b, e))
+    (cases-lt (suc row) (c .r + c .v))))
+    (cases-lt (suc line) (c .l))))
     (cases-lt (suc column) (width c))
 
 -- what begins with the next clock
@@ -106,6 +106,7 @@ requests-it c b page free blink t k rest g = ⊎-elim inside below (cases-lt (k 
   where
     Goal : Type 0
     Goal = wants k ≡ requested c b page free (k .row) t
+
     inside : k .row < c .r → Goal
     inside lt =
         let l = lt-ltb (k .row) (c .r) lt in
@@ -113,9 +114,10 @@ requests-it c b page free blink t k rest g = ⊎-elim inside below (cases-lt (k 
         ⊎-elim
         (λ (d : k .dark ≡ true). let i : in-time c b page free (k .row) ≡ false = not-true _ (sym y ∙ d) in wants-dark k d ∙ sym (rw (l, i) refl))
         (λ (d : k .dark ≡ false).
-            let i : in-time c b page free (k .row) ≡ true = not-false _ (sym y ∙ d) in
-            sym (wants-is k (g .armed) d) ∙ asks c b page free (k .row) t (k .gap) (k .fill) rest (g .filling d lt) ∙ sym (rw (l, i) refl))
+        let i : in-time c b page free (k .row) ≡ true = not-false _ (sym y ∙ d) in
+        sym (wants-is k (g .armed) d) ∙ asks c b page free (k .row) t (k .gap) (k .fill) rest (g .filling d lt) ∙ sym (rw (l, i) refl))
         (cases-bool (k .dark))
+
     below : c .r ≤ k .row → Goal
     below ge =
         let l = le-ltb (k .row) (c .r) ge in
@@ -162,7 +164,7 @@ idle-below c j h = rw (lt-ltb (c .r) j h) refl
 abbrev pub stepped : Shape → (ve : Bool) → Bursts → Core → Bool → List ℕ → Turn → Core
 stepped c ve u k f rest turn =
     prepared c ve u (opening (moved turn (fed c k (handed (wants k) f rest)) .row) (moved turn (fed c k (handed (wants k) f rest)) .line) (moved turn (fed c k (handed (wants k) f rest)) .column))
-        (moved turn (fed c k (handed (wants k) f rest)))
+    (moved turn (fed c k (handed (wants k) f rest)))
 
 pub next :
     (c : Shape) (b : Bursts) (page : List ℕ) (free : ℕ → Bool) (blink t : ℕ) (ve : Bool) (u : Bursts) (k : Core) (rest : List ℕ) → Good c b page free blink t k rest → suc t < total c
@@ -172,24 +174,34 @@ next c b page free blink t ve u k rest g lt = go (turn c row line column) (turn-
   where
     row : ℕ
     row = k .row
+
     line : ℕ
     line = k .line
+
     column : ℕ
     column = k .column
+
     k₂ : Core
     k₂ = fed c k (handed (wants k) (free t) rest)
+
     rest₂ : List ℕ
     rest₂ = left (wants k) (free t) rest
+
     now-filling : k .dark ≡ false → row < c .r → Filling c b page free row (suc t) (k₂ .gap) (k₂ .fill) rest₂
     now-filling = fills c b page free blink t k rest g (omega arith)
+
     still-full : k .dark ≡ false → c .r ≤ row → full (k₂ .fill .take) ≡ true
     still-full d ge = stays-full c k (free t) rest (g .idles d ge)
+
     at-end : Says c row line column new-row → suc t ≡ suc row * span c
     at-end h = let e = row-end c (suc t) row line column (ap suc (g .place-is)) (g .column<) (g .line<) (h .0) (h .1) in omega arith
+
     under : underrun k₂ ≡ (not (k .dark) && not (full (k₂ .fill .take)))
     under = rw (g .armed) refl
+
     swap : (k .dark || underrun k₂) ≡ false → (k .dark ≡ false) × (full (k₂ .fill .take) ≡ true)
     swap e = let y = under in (grind (arith, tells), grind (arith, tells))
+
     darkens : Says c row line column new-row → suc row ≤ c .r → (k .dark || underrun k₂) ≡ not (in-time c b page free (suc row))
     darkens h le =
         let y = under in
@@ -199,37 +211,59 @@ next c b page free blink t ve u k rest g lt = go (turn c row line column) (turn-
         (λ (d : k .dark ≡ true). grind (arith, tells))
         (λ (d : k .dark ≡ false). let l = ended c b page free row (suc t) (k₂ .gap) (k₂ .fill) rest₂ (now-filling d le) (at-end h) in grind (arith, tells))
         (cases-bool (k .dark))
+
     was-read : (k .dark || underrun k₂) ≡ false → row < c .r → Read c b page row (k₂ .fill) rest₂
     was-read e l = let s = swap e in read c b page free row (suc t) (k₂ .gap) (k₂ .fill) rest₂ (now-filling (s .0) l) (s .1)
+
     begun : Says c row line column new-row → (k .dark || underrun k₂) ≡ false → suc row < c .r
         → Filling c b page free (suc row) (suc t) 0 (fresh (c .h) (idle c (suc (suc row))) (k₂ .fill .take .over) (k₂ .fill .show)) rest₂
     begun h e l =
         let r = was-read e (omega arith) in
         let i = idle-blank c (suc (suc row)) (omega arith) in
         rw i (began c b page free (suc row) (suc t) (r .from) (k₂ .fill .take .over) (k₂ .fill .show) rest₂ (at-end h) (r .stands) (r .rest-is))
+
     go : (n : Turn) → Says c row line column n → Good c b page free blink (suc t) (stepped c ve u k (free t) rest n) rest₂
     go in-line h = rw (opening-in-line row line column)
         (record {
-            place-is = (let p = g .place-is in omega arith); column< = h; line< = g .line<; row< = g .row<;
-            armed = g .armed; bursts-is = g .bursts-is; blink-is = g .blink-is;
-            dark-is = g .dark-is; filling = now-filling; idles = still-full; showing = g .showing
+          place-is = (let p = g .place-is in omega arith);
+          column< = h;
+          line< = g .line<;
+          row< = g .row<;
+          armed = g .armed;
+          bursts-is = g .bursts-is;
+          blink-is = g .blink-is;
+          dark-is = g .dark-is;
+          filling = now-filling;
+          idles = still-full;
+          showing = g .showing;
         })
     go new-line h = rw (opening-new-line row line)
         (record {
-            place-is = (let p = g .place-is in let m = suc-mul line (line-clocks c) in let q = g .column< in let s = h .0 in omega arith);
-            column< = omega (arith, g .column<); line< = h .1; row< = g .row<;
-            armed = g .armed; bursts-is = g .bursts-is; blink-is = g .blink-is;
-            dark-is = g .dark-is; filling = now-filling; idles = still-full; showing = g .showing
+          place-is = (let p = g .place-is in let m = suc-mul line (line-clocks c) in let q = g .column< in let s = h .0 in omega arith);
+          column< = omega (arith, g .column<);
+          line< = h .1;
+          row< = g .row<;
+          armed = g .armed;
+          bursts-is = g .bursts-is;
+          blink-is = g .blink-is;
+          dark-is = g .dark-is;
+          filling = now-filling;
+          idles = still-full;
+          showing = g .showing;
         })
     go new-row h = rw (opening-new-row row)
         (record {
-            place-is = row-end c (suc t) row line column (ap suc (g .place-is)) (g .column<) (g .line<) (h .0) (h .1);
-            column< = omega (arith, g .column<); line< = omega (arith, g .line<); row< = h .2;
-            armed = g .armed; bursts-is = g .bursts-is; blink-is = g .blink-is;
-            dark-is = darkens h;
-            filling = λ e l. begun h e l;
-            idles = λ e ge. idle-full (c .h) (idle c (suc (suc row))) (k₂ .fill .take .over) (k₂ .fill .show) (idle-below c (suc (suc row)) (omega arith));
-            showing = λ e i q l. let same : i ≡ row = omega arith in rw same (was-read e (omega arith) .columns)
+          place-is = row-end c (suc t) row line column (ap suc (g .place-is)) (g .column<) (g .line<) (h .0) (h .1);
+          column< = omega (arith, g .column<);
+          line< = omega (arith, g .line<);
+          row< = h .2;
+          armed = g .armed;
+          bursts-is = g .bursts-is;
+          blink-is = g .blink-is;
+          dark-is = darkens h;
+          filling = λ e l. begun h e l;
+          idles = λ e ge. idle-full (c .h) (idle c (suc (suc row))) (k₂ .fill .take .over) (k₂ .fill .show) (idle-below c (suc (suc row)) (omega arith));
+          showing = λ e i q l. let same : i ≡ row = omega arith in rw same (was-read e (omega arith) .columns);
         })
     go new-frame h =
         let e = row-end c (suc t) row line column (ap suc (g .place-is)) (g .column<) (g .line<) (h .0) (h .1) in
@@ -247,6 +281,7 @@ shows-row c b page free blink t q k rest g one le ok = go (k .row) refl
   where
     d : k .dark ≡ false
     d = (let y = g .dark-is le in grind (arith, tells))
+
     go : (j : ℕ) → k .row ≡ j → pictured c q k ≡ picture c (b .n) page q blink (k .row) (k .line) (k .column)
     go zero e = absurd (omega arith)
     go (suc i) e =
@@ -254,13 +289,13 @@ shows-row c b page free blink t q k rest g one le ok = go (k .row) refl
         let v : vrtc c k ≡ false = grind (arith, tells) in
         ⊎-elim
         (λ (l : k .column < c .h).
-            let a = lt-leb (c .h) (k .column) l in
-            let x = lt-ltb (k .column) (c .h) l in
-            rw (g .armed, d, v, a, x, g .blink-is, s, e) refl)
+        let a = lt-leb (c .h) (k .column) l in
+        let x = lt-ltb (k .column) (c .h) l in
+        rw (g .armed, d, v, a, x, g .blink-is, s, e) refl)
         (λ (ge : c .h ≤ k .column).
-            let a = le-leb (c .h) (k .column) ge in
-            let x = le-ltb (k .column) (c .h) ge in
-            rw (g .armed, d, v, a, x) refl)
+        let a = le-leb (c .h) (k .column) ge in
+        let x = le-ltb (k .column) (c .h) ge in
+        rw (g .armed, d, v, a, x) refl)
         (cases-lt (k .column) (c .h))
 
 pub shows-dark :
@@ -272,6 +307,7 @@ shows-dark c b page free blink t q k rest g le no-more = go (k .row) refl
   where
     d : k .dark ≡ true
     d = (let y = g .dark-is le in grind (arith, tells))
+
     go : (j : ℕ) → k .row ≡ j → pictured c q k ≡ dark-word (line-count c (k .line)) (leb (c .h) (k .column)) false
     go zero e = absurd (let z : true ≡ false = sym (ap (in-time c b page free) e) ∙ no-more in let w : _≡_ {A = ℕ} 0 1 = cc in omega arith)
     go (suc i) e = let v : vrtc c k ≡ false = grind (arith, tells) in rw (g .armed, d, v) refl

@@ -66,9 +66,9 @@ pub harmless : Harmless
 unfolding call-state
 harmless =
     record {
-        status = λ s m. record { shape = refl; cursor = refl; core = refl; video = refl; bursts = refl };
-        read = λ s m. after-read-alike (s .pending) s;
-        stroke = λ s m. stroke-alike (s .shape) s;
-        command = λ s m b e h. refused-command s b e h;
-        parameter = λ s m b e h. refused-at (s .pending) s b e h
+      status = λ s m. record { shape = refl; cursor = refl; core = refl; video = refl; bursts = refl };
+      read = λ s m. after-read-alike (s .pending) s;
+      stroke = λ s m. stroke-alike (s .shape) s;
+      command = λ s m b e h. refused-command s b e h;
+      parameter = λ s m b e h. refused-at (s .pending) s b e h;
     }

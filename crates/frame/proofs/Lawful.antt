@@ -83,13 +83,13 @@ tick c b q page free blink es pr ih t rest s m a h now f room =
     let z : 1 + t ≡ suc t = omega arith in
     let z₂ : 1 + clocks es ≡ suc (clocks es) = omega arith in
     let y = ih (suc t) (clock-source c s m .rest) (clock-state c s m) (clock-on c b q page free blink t rest s m a lt now) h
-        (subst (λ (n : ℕ). Found page free n (clock-source c s m .rest) es (clock-state c s m)) z f) (omega arith) in
+    (subst (λ (n : ℕ). Found page free n (clock-source c s m .rest) es (clock-state c s m)) z f) (omega arith) in
     rw z₂ (record {
-        ends = λ g. y .ends (omega arith);
-        mids = λ u v. y .mids (omega arith) (omega arith);
-        size = ap suc (y .size);
-        at = first-or-later c b q page free blink t (clocks es) (clock-word c s) (after es (clock-state c s m)) (words (answers es (clock-state c s m)))
-            (λ j l p hl hp g. seen c b q page free blink t rest s pr a lt j l p hl hp g) y
+      ends = λ g. y .ends (omega arith);
+      mids = λ u v. y .mids (omega arith) (omega arith);
+      size = ap suc (y .size);
+      at = first-or-later c b q page free blink t (clocks es) (clock-word c s) (after es (clock-state c s m)) (words (answers es (clock-state c s m)))
+          (λ j l p hl hp g. seen c b q page free blink t rest s pr a lt j l p hl hp g) y;
     })
 
 by-call :
@@ -116,7 +116,7 @@ by-call c b q page free blink Clock m es pr ih t rest s a e h now f room =
     let ans : word-by (s .shape) s ≡ Word (clock-word c s) = ap (λ (o : Option Shape). word-by o s) (a .composed) in
     let h₂ : Quiet es (clock-state c s m) = subst (Quiet es) st h in
     let f₂ : Found page free (1 + t) (clock-source c s m .rest) es (clock-state c s m) =
-        subst (λ (s₂ : State). Found page free (1 + t) (clock-source c s m .rest) es s₂) st (subst (λ (m₂ : Meaning). Found page free (1 + t) (m₂ .rest) es (call-state Clock s m)) src f) in
+    subst (λ (s₂ : State). Found page free (1 + t) (clock-source c s m .rest) es s₂) st (subst (λ (m₂ : Meaning). Found page free (1 + t) (m₂ .rest) es (call-state Clock s m)) src f) in
     rw (ans, st) (tick c b q page free blink es pr ih t rest s m a h₂ now f₂ room)
   where
     clock-call : (s : State) (m : Meaning) (c : Shape) → s .shape ≡ Some c → (call-state Clock s m ≡ clock-state c s m) × (call-source Clock s m ≡ clock-source c s m)
@@ -126,10 +126,10 @@ pub walk : (c : Shape) (b : Bursts) (q : Option (ℕ × ℕ)) (page : List ℕ) 
 unfolding after answers
 walk c b q page free blink [] pr t rest s a h f room =
     record {
-        ends = λ e. a .last (omega arith);
-        mids = λ u v. a .not-first (omega arith) (omega arith);
-        size = refl;
-        at = λ i lt. absurd (omega arith)
+      ends = λ e. a .last (omega arith);
+      mids = λ u v. a .not-first (omega arith) (omega arith);
+      size = refl;
+      at = λ i lt. absurd (omega arith);
     }
 walk c b q page free blink (e ∷ es) pr t rest s a h f room =
     by-call c b q page free blink (e .call) (e .found) es pr (walk c b q page free blink es pr) t rest s a (h .0) (h .1) (f .0) (f .1) room
@@ -177,7 +177,7 @@ seen-at c b q page free blink n e ws w j l p h =
     let z : 0 + place c j l p ≡ place c j l p = omega arith in
     let y = line-clocks-is c in
     subst (λ (t : ℕ). Seen c b q page free blink j l p t (getD ws (place c j l p) 0)) z
-        (w .at (place c j l p) (h .2) j l p (h .0) (let x = h .1 in omega arith) (z ∙ place-is c j l p))
+    (w .at (place c j l p) (h .2) j l p (h .0) (let x = h .1 in omega arith) (z ∙ place-is c j l p))
 
 freer-law :
     (c : Shape) (s : State) (page : List ℕ) (free : ℕ → Bool) (n : ℕ) (e : State) (ws : List ℕ) → Proper c → Walked c (s .control .bursts) (s .cursor) page free (s .core .blink) 0 n e ws
@@ -185,17 +185,19 @@ freer-law :
     → Quiet es₂ s₂ → Found page free₂ 0 [] es₂ s₂ → clocks es₂ ≤ (c .h + c .z) * c .l * (c .r + c .v)
     → (j : ℕ) → j ≤ c .r → in-time c (s .control .bursts) page free j ≡ true
     → (in-time c (s₂ .control .bursts) page free₂ j ≡ true)
-      × ((line p : ℕ) → 1 ≤ j → Played c n j line p → Played c (clocks es₂) j line p
-        → picture-bits (getD ws (place c j line p) 0) ≡ picture-bits (getD (words (answers es₂ s₂)) (place c j line p) 0))
+    × ((line p : ℕ) → 1 ≤ j → Played c n j line p → Played c (clocks es₂) j line p
+    → picture-bits (getD ws (place c j line p) 0) ≡ picture-bits (getD (words (answers es₂ s₂)) (place c j line p) 0))
 freer-law c s page free n e ws pr w s₂ es₂ free₂ r₂ eq more h₂ f₂ room j le ok =
     let b₂ : Bursts = s₂ .control .bursts in
     let u = in-time-more c (s .control .bursts) page free free₂ j more ok in
     let u₂ : in-time c b₂ page free₂ j ≡ true = rw (eq .bursts) u in
-    let w₂ = walk c b₂ (s₂ .cursor) page free₂ (s₂ .core .blink) es₂ pr 0 [] s₂ (begun-at c s₂ page free₂ pr r₂) h₂ f₂ (let z = total-product c in omega arith) in
-    (u₂, λ line p one a a₂.
-        seen-at c (s .control .bursts) (s .cursor) page free (s .core .blink) n e ws w j line p a .shows one le ok
-        ∙ (rw (← eq .bursts, ← eq .cursor, ← eq .blink) refl)
-        ∙ sym (seen-at c b₂ (s₂ .cursor) page free₂ (s₂ .core .blink) (clocks es₂) _ _ w₂ j line p a₂ .shows one le u₂))
+    let w₂ = walk c b₂ (s₂ .cursor) page free₂ (s₂ .core .blink) es₂ pr 0 [] s₂ (begun-at c s₂ page free₂ pr r₂) h₂ f₂ (let z = total-product c in omega arith) in (
+      u₂,
+      λ line p one a a₂.
+          seen-at c (s .control .bursts) (s .cursor) page free (s .core .blink) n e ws w j line p a .shows one le ok
+          ∙ (rw (← eq .bursts, ← eq .cursor, ← eq .blink) refl)
+          ∙ sym (seen-at c b₂ (s₂ .cursor) page free₂ (s₂ .core .blink) (clocks es₂) _ _ w₂ j line p a₂ .shows one le u₂),
+    )
 
 pub law :
     (c : Shape) (s : State) (es : List Moment) (page : List ℕ) (free : ℕ → Bool) → Proper c → Ready c s → Quiet es s → Found page free 0 [] es s
@@ -206,15 +208,15 @@ law c s es page free pr r h f room =
     let w = walk c b (s .cursor) page free (s .core .blink) es pr 0 [] s (begun-at c s page free pr r) h f (omega arith) in
     let at = seen-at c b (s .cursor) page free (s .core .blink) (clocks es) (after es s) (words (answers es s)) w in
     record {
-        lasts = λ g. w .ends (omega arith);
-        not-before = λ u v. w .mids (omega arith) (omega arith);
-        one-each = w .size;
-        shows = λ j l p x one le ok. at j l p x .shows one le ok;
-        dark = λ j l p x le ok. at j l p x .dark le ok;
-        retrace = λ j l p x v. at j l p x .retrace v;
-        asks = λ j l p x. at j l p x .asks;
-        freer = λ h₂ es₂ free₂ r₂ eq more q₂ f₂ room₂ j le ok.
-            freer-law c s page free (clocks es) (after es s) (words (answers es s)) pr w (after h₂ new) es₂ free₂ r₂ eq more q₂ f₂ room₂ j le ok
+      lasts = λ g. w .ends (omega arith);
+      not-before = λ u v. w .mids (omega arith) (omega arith);
+      one-each = w .size;
+      shows = λ j l p x one le ok. at j l p x .shows one le ok;
+      dark = λ j l p x le ok. at j l p x .dark le ok;
+      retrace = λ j l p x v. at j l p x .retrace v;
+      asks = λ j l p x. at j l p x .asks;
+      freer = λ h₂ es₂ free₂ r₂ eq more q₂ f₂ room₂ j le ok.
+          freer-law c s page free (clocks es) (after es s) (words (answers es s)) pr w (after h₂ new) es₂ free₂ r₂ eq more q₂ f₂ room₂ j le ok;
     }
 
 pub frame-law : Frame-law

@@ -46,12 +46,12 @@ either false s t x y = y
 pub proper : (p q r t : ℕ) → allowed p ≡ true → Proper (composed p q r t)
 proper p q r t h =
     record {
-        h-range = (let a : p % 128 ≤ 79 = grind (arith, tells) in (omega arith, omega arith));
-        z-range = (omega arith, omega arith);
-        l-range = (omega arith, omega arith);
-        r-range = (omega arith, omega arith);
-        v-range = (omega arith, omega arith);
-        u-range = omega arith
+      h-range = (let a : p % 128 ≤ 79 = grind (arith, tells) in (omega arith, omega arith));
+      z-range = (omega arith, omega arith);
+      l-range = (omega arith, omega arith);
+      r-range = (omega arith, omega arith);
+      v-range = (omega arith, omega arith);
+      u-range = omega arith;
     }
 
 obeys : (s : State) (b : ℕ) → Proper-in (s .shape) → Sound (obeyed (dropped s) b)

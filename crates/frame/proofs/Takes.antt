@@ -53,10 +53,10 @@ seek-none free (suc m) o t h g =
     ⊎-elim
     (λ e. absurd (omega (arith, seek-hit free (suc m) o e)))
     (λ e.
-        ⊎-elim
-        (λ lt. seek-none free m (suc o) t lt (omega (arith, seek-miss free m o e)))
-        (λ ge. let same : t ≡ o = omega arith in rw same e)
-        (cases-lt o t))
+    ⊎-elim
+    (λ lt. seek-none free m (suc o) t lt (omega (arith, seek-miss free m o e)))
+    (λ ge. let same : t ≡ o = omega arith in rw same e)
+    (cases-lt o t))
     (cases-bool (free o))
 
 -- what the search from o on is told by: not before o, free there unless at the end, none free in between
@@ -95,15 +95,15 @@ first-mono f g end o p more h =
     let a = first-from f end o in
     ⊎-elim
     (λ late.
-        ⊎-elim
-        (λ inside.
-            absurd
-            (both-ways
-                (g (first-free f end o))
-                (first-none g end p (first-free f end o) (omega arith) late)
-                (more (first-free f end o) (first-is-free f end o inside))))
-        (λ out. let b = first-to g end p in omega arith)
-        (cases-lt (first-free f end o) end))
+    ⊎-elim
+    (λ inside.
+    absurd
+    (both-ways
+    (g (first-free f end o))
+    (first-none g end p (first-free f end o) (omega arith) late)
+    (more (first-free f end o) (first-is-free f end o inside))))
+    (λ out. let b = first-to g end p in omega arith)
+    (cases-lt (first-free f end o) end))
     (λ ok. ok)
     (cases-lt (first-free f end o) (first-free g end p))
 

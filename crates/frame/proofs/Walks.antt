@@ -41,10 +41,10 @@ same-digit q p m r s e a b =
     ⊎-elim
     (λ (lt : q < p). absurd (omega (arith, digits-lt {q = q} {m = p} {r = r} {c = m} lt a)))
     (λ (ge : p ≤ q).
-        ⊎-elim
-        (λ (lt : p < q). absurd (omega (arith, digits-lt {q = p} {m = q} {r = s} {c = m} lt b)))
-        (λ (le : q ≤ p). let y : q ≡ p = omega arith in (y, (let k : q * m ≡ p * m = ap (λ (z : ℕ). z * m) y in omega arith)))
-        (cases-lt p q))
+    ⊎-elim
+    (λ (lt : p < q). absurd (omega (arith, digits-lt {q = p} {m = q} {r = s} {c = m} lt b)))
+    (λ (le : q ≤ p). let y : q ≡ p = omega arith in (y, (let k : q * m ≡ p * m = ap (λ (z : ℕ). z * m) y in omega arith)))
+    (cases-lt p q))
     (cases-lt q p)
 
 inside : (c : Shape) (l p : ℕ) → l < c .l → p < line-clocks c → l * line-clocks c + p < span c
@@ -86,7 +86,7 @@ unfolding at-start
 begins-not k ve m h =
     ⊎-elim
     (λ (a : (eqb (k .line) 0 && eqb (k .column) 0) ≡ true).
-        let z : eqb (k .row) 0 ≡ false = grind (arith, tells) in rw (a, z) refl)
+    let z : eqb (k .row) 0 ≡ false = grind (arith, tells) in rw (a, z) refl)
     (λ (a : (eqb (k .line) 0 && eqb (k .column) 0) ≡ false). rw a refl)
     (cases-bool (eqb (k .line) 0 && eqb (k .column) 0))
 
@@ -125,27 +125,32 @@ begun-at c s page free p r =
     let z = start-zero (s .core) (r .first) in
     let b : Bursts = s .control .bursts in
     record {
-        composed = r .composed; cursor = refl; enabled = r .enabled; bursts = refl;
-        mid = λ _. rw (opens-frame (s .core) (r .first), r .enabled)
-            (record {
-                place-is =
-                    (let a₁ : s .core .row * span c ≡ 0 * span c = ap (λ (k : ℕ). k * span c) (z .0) in
-                    let a₂ : s .core .line * line-clocks c ≡ 0 * line-clocks c = ap (λ (k : ℕ). k * line-clocks c) (z .1) in
-                    omega arith);
-                column< = (let h = p .h-range in omega (arith, line-clocks-is c));
-                line< = (let h = p .l-range in omega arith);
-                row< = (let h = p .r-range in omega arith);
-                armed = refl; bursts-is = refl; blink-is = refl;
-                dark-is = λ _. rw (z .0) refl;
-                filling = λ _ _. rw (z .0)
-                    (let one : idle c 1 ≡ blank c 1 = (let h = p .r-range in let l : ltb (c .r) 1 ≡ false = grind (arith, tells) in rw l refl) in
-                    rw one (began c b page free 0 0 0 false nothing page (omega arith) (at-top c (b .n) page nothing refl refl) refl));
-                idles = λ _ ge. absurd (let h = p .r-range in omega arith);
-                showing = λ _ i e _. absurd (omega arith)
-            });
-        first = λ _. r .first;
-        last = λ _. r .first;
-        not-first = λ h _. absurd (omega arith)
+      composed = r .composed;
+      cursor = refl;
+      enabled = r .enabled;
+      bursts = refl;
+      mid = λ _. rw (opens-frame (s .core) (r .first), r .enabled)
+          (record {
+            place-is =
+                (let a₁ : s .core .row * span c ≡ 0 * span c = ap (λ (k : ℕ). k * span c) (z .0) in
+                let a₂ : s .core .line * line-clocks c ≡ 0 * line-clocks c = ap (λ (k : ℕ). k * line-clocks c) (z .1) in
+                omega arith);
+            column< = (let h = p .h-range in omega (arith, line-clocks-is c));
+            line< = (let h = p .l-range in omega arith);
+            row< = (let h = p .r-range in omega arith);
+            armed = refl;
+            bursts-is = refl;
+            blink-is = refl;
+            dark-is = λ _. rw (z .0) refl;
+            filling = λ _ _. rw (z .0)
+                (let one : idle c 1 ≡ blank c 1 = (let h = p .r-range in let l : ltb (c .r) 1 ≡ false = grind (arith, tells) in rw l refl) in
+                rw one (began c b page free 0 0 0 false nothing page (omega arith) (at-top c (b .n) page nothing refl refl) refl));
+            idles = λ _ ge. absurd (let h = p .r-range in omega arith);
+            showing = λ _ i e _. absurd (omega arith);
+          });
+      first = λ _. r .first;
+      last = λ _. r .first;
+      not-first = λ h _. absurd (omega arith);
     }
 
 -- what a clock reads of its source
@@ -168,10 +173,13 @@ wraps c b page free blink t k k₂ rest g e = go (turn c row line column) (turn-
   where
     row : ℕ
     row = k .row
+
     line : ℕ
     line = k .line
+
     column : ℕ
     column = k .column
+
     go : (u : Turn) → Says c row line column u → at-start (moved u k₂) ≡ true
     go in-line h = let p = g .place-is in absurd (omega (arith, within-frame c row line (suc column) (g .row<) (g .line<) h))
     go new-line h =
@@ -190,12 +198,12 @@ not-start :
 not-start c b page free blink t ve u o k rest g =
     ⊎-elim
     (λ (h : at-start k ≡ true).
-        let z = start-zero k h in
-        let s = stays c ve u o k in
-        let a₁ : prepared c ve u o k .row * span c ≡ 0 * span c = ap (λ (n : ℕ). n * span c) (s .0 ∙ z .0) in
-        let a₂ : prepared c ve u o k .line * line-clocks c ≡ 0 * line-clocks c = ap (λ (n : ℕ). n * line-clocks c) (s .1 ∙ z .1) in
-        let a₃ : prepared c ve u o k .column ≡ 0 = s .2 ∙ z .2 in
-        absurd (omega (arith, g .place-is)))
+    let z = start-zero k h in
+    let s = stays c ve u o k in
+    let a₁ : prepared c ve u o k .row * span c ≡ 0 * span c = ap (λ (n : ℕ). n * span c) (s .0 ∙ z .0) in
+    let a₂ : prepared c ve u o k .line * line-clocks c ≡ 0 * line-clocks c = ap (λ (n : ℕ). n * line-clocks c) (s .1 ∙ z .1) in
+    let a₃ : prepared c ve u o k .column ≡ 0 = s .2 ∙ z .2 in
+    absurd (omega (arith, g .place-is)))
     (λ (h : at-start k ≡ false). h)
     (cases-bool (at-start k))
 
@@ -214,15 +222,18 @@ clock-on c b q page free blink t rest s m a lt f =
     let rest₂ : left (wants k) (ready-source s m .free 0) (ready-source s m .rest) ≡ left (wants k) (free t) r = rw (src .0, src .1) refl in
     let core₂ : Core = moved (turn c (k .row) (k .line) (k .column)) (fed c k (handed (wants k) (free t) r)) in
     let same : moved (turn c (k .row) (k .line) (k .column)) (fed c k (answer (ready-source s m) (wants k))) ≡ core₂ =
-        ap (λ (x : Option ℕ). moved (turn c (k .row) (k .line) (k .column)) (fed c k x)) came in
+    ap (λ (x : Option ℕ). moved (turn c (k .row) (k .line) (k .column)) (fed c k x)) came in
     let good : suc t < total c → Good c b page free blink (suc t) (stepped c (s .control .ve) (s .control .bursts) k (free t) r (turn c (k .row) (k .line) (k .column))) (left (wants k) (free t) r) =
-        λ l. next c b page free blink t (s .control .ve) (s .control .bursts) k r g l in
+    λ l. next c b page free blink t (s .control .ve) (s .control .bursts) k r g l in
     record {
-        composed = a .composed; cursor = a .cursor; enabled = a .enabled; bursts = a .bursts;
-        mid = λ l. rw (ready-is c (clock-state c s m), same, rest₂) (good l);
-        first = λ e. absurd (omega arith);
-        last = λ e. rw same (wraps c b page free blink t k _ r g e);
-        not-first = λ _ l. rw same (not-start c b page free blink t (s .control .ve) (s .control .bursts) _ core₂ (left (wants k) (free t) r) (good l))
+      composed = a .composed;
+      cursor = a .cursor;
+      enabled = a .enabled;
+      bursts = a .bursts;
+      mid = λ l. rw (ready-is c (clock-state c s m), same, rest₂) (good l);
+      first = λ e. absurd (omega arith);
+      last = λ e. rw same (wraps c b page free blink t k _ r g e);
+      not-first = λ _ l. rw same (not-start c b page free blink t (s .control .ve) (s .control .bursts) _ core₂ (left (wants k) (free t) r) (good l));
     }
 
 -- a call that leaves all that the frame depends on
@@ -232,11 +243,14 @@ pub at-alike :
 at-alike c b q page free blink t rest s s₂ a e =
     let same : ready-core c s₂ ≡ ready-core c s = rw (ready-is c s₂, ready-is c s, e .core, e .video, e .bursts) refl in
     record {
-        composed = e .shape ∙ a .composed; cursor = e .cursor ∙ a .cursor; enabled = e .video ∙ a .enabled; bursts = e .bursts ∙ a .bursts;
-        mid = λ l. rw same (a .mid l);
-        first = λ z. rw (e .core) (a .first z);
-        last = λ z. rw (e .core) (a .last z);
-        not-first = λ x y. rw (e .core) (a .not-first x y)
+      composed = e .shape ∙ a .composed;
+      cursor = e .cursor ∙ a .cursor;
+      enabled = e .video ∙ a .enabled;
+      bursts = e .bursts ∙ a .bursts;
+      mid = λ l. rw same (a .mid l);
+      first = λ z. rw (e .core) (a .first z);
+      last = λ z. rw (e .core) (a .last z);
+      not-first = λ x y. rw (e .core) (a .not-first x y);
     }
 
 -- picture bits lie below bit 22
@@ -294,10 +308,10 @@ seen-core c b q page free blink t k rest irq p g =
     let s = picture-small c q k (count-small c (k .line) p (g .line<)) in
     let e = bits-are (pictured c q k) (wants k) irq s in
     record {
-        shows = λ one le ok. e .0 ∙ shows-row c b page free blink t q k rest g one le ok;
-        dark = λ le ok. e .0 ∙ shows-dark c b page free blink t q k rest g le ok;
-        retrace = λ v. e .0 ∙ shows-retrace c b page free blink t q k rest g v;
-        asks = e .1 ∙ ap bit (requests-it c b page free blink t k rest g)
+      shows = λ one le ok. e .0 ∙ shows-row c b page free blink t q k rest g one le ok;
+      dark = λ le ok. e .0 ∙ shows-dark c b page free blink t q k rest g le ok;
+      retrace = λ v. e .0 ∙ shows-retrace c b page free blink t q k rest g v;
+      asks = e .1 ∙ ap bit (requests-it c b page free blink t k rest g);
     }
 
 pub seen :

@@ -119,25 +119,25 @@ pub record Law (c : Shape) (s : State) (page : List ℕ) (free : ℕ → Bool) (
   pub one-each : length ws ≡ n
   -- a row with no late row down to it shows the page's picture
   pub shows :
-    (j line p : ℕ) → Played c n j line p → 1 ≤ j → j ≤ c .r → in-time c (s .control .bursts) page free j ≡ true
-    → picture-bits (getD ws (place c j line p) 0) ≡ picture c (s .control .bursts .n) page (s .cursor) (s .core .blink) j line p
+      (j line p : ℕ) → Played c n j line p → 1 ≤ j → j ≤ c .r → in-time c (s .control .bursts) page free j ≡ true
+      → picture-bits (getD ws (place c j line p) 0) ≡ picture c (s .control .bursts .n) page (s .cursor) (s .core .blink) j line p
   -- a late row and every row below it are dark, and so is vertical retrace
   pub dark :
-    (j line p : ℕ) → Played c n j line p → j ≤ c .r → in-time c (s .control .bursts) page free j ≡ false
-    → picture-bits (getD ws (place c j line p) 0) ≡ dark-word (line-count c line) (leb (c .h) p) false
+      (j line p : ℕ) → Played c n j line p → j ≤ c .r → in-time c (s .control .bursts) page free j ≡ false
+      → picture-bits (getD ws (place c j line p) 0) ≡ dark-word (line-count c line) (leb (c .h) p) false
   pub retrace :
-    (j line p : ℕ) → Played c n j line p → (eqb j 0 || ltb (c .r) j) ≡ true
-    → picture-bits (getD ws (place c j line p) 0) ≡ dark-word (line-count c line) (leb (c .h) p) true
+      (j line p : ℕ) → Played c n j line p → (eqb j 0 || ltb (c .r) j) ≡ true
+      → picture-bits (getD ws (place c j line p) 0) ≡ dark-word (line-count c line) (leb (c .h) p) true
   -- the request line is on from the opening of a byte until it is taken, and at no other clock
   pub asks : (j line p : ℕ) → Played c n j line p → request-bit (getD ws (place c j line p) 0) ≡ bit (requested c (s .control .bursts) page free j (place c j line p))
   -- over a bus that is free wherever this one is, an equal console loses no row
   pub freer :
-    (h₂ es₂ : List Moment) (free₂ : ℕ → Bool) → Ready c (after h₂ new) → Equal s (after h₂ new) → ((t : ℕ) → free t ≡ true → free₂ t ≡ true)
-    → Quiet es₂ (after h₂ new) → Found page free₂ 0 [] es₂ (after h₂ new) → clocks es₂ ≤ (c .h + c .z) * c .l * (c .r + c .v)
-    → (j : ℕ) → j ≤ c .r → in-time c (s .control .bursts) page free j ≡ true
-    → (in-time c (after h₂ new .control .bursts) page free₂ j ≡ true)
+      (h₂ es₂ : List Moment) (free₂ : ℕ → Bool) → Ready c (after h₂ new) → Equal s (after h₂ new) → ((t : ℕ) → free t ≡ true → free₂ t ≡ true)
+      → Quiet es₂ (after h₂ new) → Found page free₂ 0 [] es₂ (after h₂ new) → clocks es₂ ≤ (c .h + c .z) * c .l * (c .r + c .v)
+      → (j : ℕ) → j ≤ c .r → in-time c (s .control .bursts) page free j ≡ true
+      → (in-time c (after h₂ new .control .bursts) page free₂ j ≡ true)
       × ((line p : ℕ) → 1 ≤ j → Played c n j line p → Played c (clocks es₂) j line p
-        → picture-bits (getD ws (place c j line p) 0) ≡ picture-bits (getD (words (answers es₂ (after h₂ new))) (place c j line p) 0))
+      → picture-bits (getD ws (place c j line p) 0) ≡ picture-bits (getD (words (answers es₂ (after h₂ new))) (place c j line p) 0))
 
 -- for every history from a new console that leads to the first clock of an armed frame, and every list of moments from there on
 -- that stays inside the frame

@@ -37,13 +37,29 @@ unfoldable pub prepared : Shape → (ve : Bool) → Bursts → Opening → Core 
 prepared c ve b within k = k
 prepared c ve b frame-start k =
     record {
-        row = k .row; line = k .line; column = k .column; blink = k .blink; armed = ve; dark = false; bursts = cond ve b (k .bursts); gap = 0;
-        fill = fresh (c .h) (idle c 1) false nothing; shown = k .shown
+      row = k .row;
+      line = k .line;
+      column = k .column;
+      blink = k .blink;
+      armed = ve;
+      dark = false;
+      bursts = cond ve b (k .bursts);
+      gap = 0;
+      fill = fresh (c .h) (idle c 1) false nothing;
+      shown = k .shown;
     }
 prepared c ve b row-start k =
     record {
-        row = k .row; line = k .line; column = k .column; blink = k .blink; armed = k .armed; dark = k .dark || underrun k; bursts = k .bursts; gap = 0;
-        fill = fresh (c .h) (idle c (suc (k .row))) (k .fill .take .over) (k .fill .show); shown = k .fill .show
+      row = k .row;
+      line = k .line;
+      column = k .column;
+      blink = k .blink;
+      armed = k .armed;
+      dark = k .dark || underrun k;
+      bursts = k .bursts;
+      gap = 0;
+      fill = fresh (c .h) (idle c (suc (k .row))) (k .fill .take .over) (k .fill .show);
+      shown = k .fill .show;
     }
 
 -- the source begins with an armed frame
@@ -78,10 +94,16 @@ word c q irq k = pictured c q k + 0x400000 * bit (wants k) + 0x800000 * bit irq
 unfoldable pub fed : Shape → Core → Option ℕ → Core
 fed c k came =
     record {
-        row = k .row; line = k .line; column = k .column; blink = k .blink; armed = k .armed; dark = k .dark; bursts = k .bursts;
-        gap = elim came [ None ↦ k .gap - 1 | Some x ↦ pause (k .bursts) (suc (k .fill .take .taken)) ];
-        fill = elim came [ None ↦ k .fill | Some x ↦ eat (c .f) (k .bursts .n) (k .fill) x ];
-        shown = k .shown
+      row = k .row;
+      line = k .line;
+      column = k .column;
+      blink = k .blink;
+      armed = k .armed;
+      dark = k .dark;
+      bursts = k .bursts;
+      gap = elim came [ None ↦ k .gap - 1 | Some x ↦ pause (k .bursts) (suc (k .fill .take .taken)) ];
+      fill = elim came [ None ↦ k .fill | Some x ↦ eat (c .f) (k .bursts .n) (k .fill) x ];
+      shown = k .shown;
     }
 
 -- where the counters go
@@ -100,23 +122,55 @@ turn c row line column =
 unfoldable pub moved : Turn → Core → Core
 moved in-line k =
     record {
-        row = k .row; line = k .line; column = suc (k .column); blink = k .blink; armed = k .armed; dark = k .dark; bursts = k .bursts; gap = k .gap;
-        fill = k .fill; shown = k .shown
+      row = k .row;
+      line = k .line;
+      column = suc (k .column);
+      blink = k .blink;
+      armed = k .armed;
+      dark = k .dark;
+      bursts = k .bursts;
+      gap = k .gap;
+      fill = k .fill;
+      shown = k .shown;
     }
 moved new-line k =
     record {
-        row = k .row; line = suc (k .line); column = 0; blink = k .blink; armed = k .armed; dark = k .dark; bursts = k .bursts; gap = k .gap;
-        fill = k .fill; shown = k .shown
+      row = k .row;
+      line = suc (k .line);
+      column = 0;
+      blink = k .blink;
+      armed = k .armed;
+      dark = k .dark;
+      bursts = k .bursts;
+      gap = k .gap;
+      fill = k .fill;
+      shown = k .shown;
     }
 moved new-row k =
     record {
-        row = suc (k .row); line = 0; column = 0; blink = k .blink; armed = k .armed; dark = k .dark; bursts = k .bursts; gap = k .gap;
-        fill = k .fill; shown = k .shown
+      row = suc (k .row);
+      line = 0;
+      column = 0;
+      blink = k .blink;
+      armed = k .armed;
+      dark = k .dark;
+      bursts = k .bursts;
+      gap = k .gap;
+      fill = k .fill;
+      shown = k .shown;
     }
 moved new-frame k =
     record {
-        row = 0; line = 0; column = 0; blink = suc (k .blink) % 32; armed = k .armed; dark = k .dark; bursts = k .bursts; gap = k .gap;
-        fill = k .fill; shown = k .shown
+      row = 0;
+      line = 0;
+      column = 0;
+      blink = suc (k .blink) % 32;
+      armed = k .armed;
+      dark = k .dark;
+      bursts = k .bursts;
+      gap = k .gap;
+      fill = k .fill;
+      shown = k .shown;
     }
 
 -- the clock by its parts: prepared, then the source, then what came, then moved
@@ -149,16 +203,24 @@ overrun a b = eqb (a .show .pairs) 16 && eqb (b .show .pairs) 17
 unfoldable pub next-flags : Shape → State → Meaning → Flags
 next-flags c s m =
     record {
-        ir = s .flags .ir || requests c s; lp = s .flags .lp; ic = s .flags .ic;
-        du = s .flags .du || late-now (opening (s .core .row) (s .core .line) (s .core .column)) (s .core);
-        fo = s .flags .fo || overrun (ready-core c s .fill) (fed-core c s m .fill)
+      ir = s .flags .ir || requests c s;
+      lp = s .flags .lp;
+      ic = s .flags .ic;
+      du = s .flags .du || late-now (opening (s .core .row) (s .core .line) (s .core .column)) (s .core);
+      fo = s .flags .fo || overrun (ready-core c s .fill) (fed-core c s m .fill);
     }
 
 -- one clock: the console, the source and the word
 unfoldable pub clock-state : Shape → State → Meaning → State
 clock-state c s m =
     record {
-        shape = s .shape; control = s .control; cursor = s .cursor; pending = s .pending; core = next-core c s m; flags = next-flags c s m; pen = s .pen
+      shape = s .shape;
+      control = s .control;
+      cursor = s .cursor;
+      pending = s .pending;
+      core = next-core c s m;
+      flags = next-flags c s m;
+      pen = s .pen;
     }
 
 unfoldable pub clock-source : Shape → State → Meaning → Meaning
@@ -175,7 +237,11 @@ pen-row c (suc j) = j
 unfoldable pub stroke : Shape → State → State
 stroke c s =
     record {
-        shape = s .shape; control = s .control; cursor = s .cursor; pending = s .pending; core = s .core;
-        flags = record { ir = s .flags .ir; lp = true; ic = s .flags .ic; du = s .flags .du; fo = s .flags .fo };
-        pen = (s .core .column, pen-row c (s .core .row))
+      shape = s .shape;
+      control = s .control;
+      cursor = s .cursor;
+      pending = s .pending;
+      core = s .core;
+      flags = record { ir = s .flags .ir; lp = true; ic = s .flags .ic; du = s .flags .du; fo = s .flags .fo };
+      pen = (s .core .column, pen-row c (s .core .row));
     }

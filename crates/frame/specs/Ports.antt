@@ -61,13 +61,25 @@ no-flags = record { ir = false; lp = false; ic = false; du = false; fo = false }
 abbrev pub new : State
 new =
     record {
-        shape = None; control = record { ve = false; ie = false; bursts = record { n = 1; d = 0 } }; cursor = None; pending = Nothing;
-        core =
-            record {
-                row = 0; line = 0; column = 0; blink = 0; armed = false; dark = false; bursts = record { n = 1; d = 0 }; gap = 0;
-                fill = top; shown = nothing
-            };
-        flags = no-flags; pen = (0, 0)
+      shape = None;
+      control = record { ve = false; ie = false; bursts = record { n = 1; d = 0 } };
+      cursor = None;
+      pending = Nothing;
+      core =
+          record {
+            row = 0;
+            line = 0;
+            column = 0;
+            blink = 0;
+            armed = false;
+            dark = false;
+            bursts = record { n = 1; d = 0 };
+            gap = 0;
+            fill = top;
+            shown = nothing;
+          };
+      flags = no-flags;
+      pen = (0, 0);
     }
 
 -- a written parameter is outstanding
@@ -105,39 +117,73 @@ is-command b =
 abbrev pub dropped : State → State
 dropped s =
     record {
-        shape = s .shape; control = s .control; cursor = s .cursor; pending = Nothing; core = s .core;
-        flags = improper (awaits-write (s .pending)) (s .flags); pen = s .pen
+      shape = s .shape;
+      control = s .control;
+      cursor = s .cursor;
+      pending = Nothing;
+      core = s .core;
+      flags = improper (awaits-write (s .pending)) (s .flags);
+      pen = s .pen;
     }
 
 -- a frame that is not armed is dark and asks for nothing
 abbrev pub disarmed : Core → Core
 disarmed k =
     record {
-        row = k .row; line = k .line; column = k .column; blink = k .blink; armed = false; dark = k .dark; bursts = k .bursts; gap = k .gap;
-        fill = k .fill; shown = k .shown
+      row = k .row;
+      line = k .line;
+      column = k .column;
+      blink = k .blink;
+      armed = false;
+      dark = k .dark;
+      bursts = k .bursts;
+      gap = k .gap;
+      fill = k .fill;
+      shown = k .shown;
     }
 
 -- to the first clock of a row time
 abbrev pub moved-to : (row : ℕ) → Core → Core
 moved-to row k =
     record {
-        row = row; line = 0; column = 0; blink = k .blink; armed = k .armed; dark = k .dark; bursts = k .bursts; gap = k .gap;
-        fill = k .fill; shown = k .shown
+      row = row;
+      line = 0;
+      column = 0;
+      blink = k .blink;
+      armed = k .armed;
+      dark = k .dark;
+      bursts = k .bursts;
+      gap = k .gap;
+      fill = k .fill;
+      shown = k .shown;
     }
 
 abbrev pub first-frame : Core → Core
 first-frame k =
     record {
-        row = 0; line = 0; column = 0; blink = 0; armed = k .armed; dark = k .dark; bursts = k .bursts; gap = k .gap;
-        fill = k .fill; shown = k .shown
+      row = 0;
+      line = 0;
+      column = 0;
+      blink = 0;
+      armed = k .armed;
+      dark = k .dark;
+      bursts = k .bursts;
+      gap = k .gap;
+      fill = k .fill;
+      shown = k .shown;
     }
 
 -- 00 Reset clears VE, IE and IR, disarms the frame and waits for four parameters
 abbrev pub reset : State → State
 reset s =
     record {
-        shape = s .shape; control = record { ve = false; ie = false; bursts = s .control .bursts }; cursor = s .cursor; pending = Reset1; core = disarmed (s .core);
-        flags = record { ir = false; lp = s .flags .lp; ic = s .flags .ic; du = s .flags .du; fo = s .flags .fo }; pen = s .pen
+      shape = s .shape;
+      control = record { ve = false; ie = false; bursts = s .control .bursts };
+      cursor = s .cursor;
+      pending = Reset1;
+      core = disarmed (s .core);
+      flags = record { ir = false; lp = s .flags .lp; ic = s .flags .ic; du = s .flags .du; fo = s .flags .fo };
+      pen = s .pen;
     }
 
 -- VE, IE and the latest bursts
@@ -149,8 +195,13 @@ controlled ve ie bursts s =
 abbrev pub stopped : State → State
 stopped s =
     record {
-        shape = s .shape; control = record { ve = false; ie = s .control .ie; bursts = s .control .bursts }; cursor = s .cursor; pending = s .pending;
-        core = disarmed (s .core); flags = s .flags; pen = s .pen
+      shape = s .shape;
+      control = record { ve = false; ie = s .control .ie; bursts = s .control .bursts };
+      cursor = s .cursor;
+      pending = s .pending;
+      core = disarmed (s .core);
+      flags = s .flags;
+      pen = s .pen;
     }
 
 -- the same console, waiting for something else
@@ -196,8 +247,13 @@ parameter-to (Reset2 p) s b = waiting (Reset3 p b) s
 parameter-to (Reset3 p q) s b = waiting (Reset4 p q b) s
 parameter-to (Reset4 p q r) s b =
     record {
-        shape = Some (composed p q r b); control = s .control; cursor = s .cursor; pending = Nothing;
-        core = first-frame (s .core); flags = s .flags; pen = s .pen
+      shape = Some (composed p q r b);
+      control = s .control;
+      cursor = s .cursor;
+      pending = Nothing;
+      core = first-frame (s .core);
+      flags = s .flags;
+      pen = s .pen;
     }
 parameter-to CursorColumn s b = waiting (CursorRow b) s
 parameter-to (CursorRow c) s b = record { shape = s .shape; control = s .control; cursor = Some (c, b); pending = Nothing; core = s .core; flags = s .flags; pen = s .pen }

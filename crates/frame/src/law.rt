@@ -5,17 +5,14 @@ ghost use Rattle.frame.specs.Worked.{Worked};
 // Rows above the first late one show the page's picture, and all others are dark.
 pub fn frame_law()
     ensures { λ _. ⌜ Frame-law ⌝ }
-{
-}
+{}
 
 // Reads, pen strokes and refused writes leave a frame as it was.
 pub fn harmless_calls()
     ensures { λ _. ⌜ Harmless ⌝ }
-{
-}
+{}
 
 // The definitions at the edges.
 pub fn worked_cases()
     ensures { λ _. ⌜ Worked ⌝ }
-{
-}
+{}

@@ -2,5 +2,5 @@
 pub mod burst;
 pub mod call;
 pub mod flags;
-pub mod pending;
 pub mod law;
+pub mod pending;

@@ -54,23 +54,27 @@ taking-row c n page j h = cond-false _ _ _ h
 -- a row that takes nothing
 pub idle-step : (c : Shape) (n : ℕ) (page : List ℕ) (j place : ℕ) (idle over : Bool) (s : Shown) → Stands c n page j place over s → (blank c (suc j) || row c n page j .over) ≡ true
     → Stands c n page (suc j) place over (fresh (c .h) idle over s .show) × Columns c n page j (fresh (c .h) idle over s .show)
-      × (row c n page (suc j) .place ≡ place) × (row c n page (suc j) .taken ≡ 0)
+    × (row c n page (suc j) .place ≡ place) × (row c n page (suc j) .taken ≡ 0)
 unfolding fresh effects screen-over row-cell
 idle-step c n page j place idle over s h i =
-    let e = idle-row c n page j i in
-    (record {
+    let e = idle-row c n page j i in (
+      record {
         at = let z : place + 0 ≡ place = omega arith in (rw e (omega (arith, h .at)));
         whole = rw e (h .whole);
         stop = rw e (h .stop);
         field = rw e (h .field ∙ ap (field-behind no-field) (sym (append-nil (effects c n page j))));
-        below = rw e (h .below ∙ sym (or-false (screen-over c n page j)))
-    }, λ p. rw (e, h .below) refl, rw e (sym (h .at)), rw e refl)
+        below = rw e (h .below ∙ sym (or-false (screen-over c n page j)));
+      },
+      λ p. rw (e, h .below) refl,
+      rw e (sym (h .at)),
+      rw e refl,
+    )
 
 -- what the page gives a row that takes
 read-row : (c : Shape) (n : ℕ) (bs : List ℕ) (s : Shown)
     → reads (c .f) n (fresh (c .h) false false s) bs
-      ≡ mk (enough n (c .h) (row-positions (c .f) (c .h) bs) bs) (0 + count n (c .h) (row-positions (c .f) (c .h) bs)) (some stops-all (row-positions (c .f) (c .h) bs))
-           (puts (fresh (c .h) false false s .show) (row-positions (c .f) (c .h) bs)) (drop (count n (c .h) (row-positions (c .f) (c .h) bs)) bs)
+    ≡ mk (enough n (c .h) (row-positions (c .f) (c .h) bs) bs) (0 + count n (c .h) (row-positions (c .f) (c .h) bs)) (some stops-all (row-positions (c .f) (c .h) bs))
+    (puts (fresh (c .h) false false s .show) (row-positions (c .f) (c .h) bs)) (drop (count n (c .h) (row-positions (c .f) (c .h) bs)) bs)
 unfolding fresh outcome ready
 read-row c n bs s = taking (c .f) n bs (c .h) 0 false (fresh (c .h) false false s .show)
 
@@ -89,7 +93,7 @@ none false a o q l e = refl
 pub taking-step : (c : Shape) (n : ℕ) (page : List ℕ) (j place : ℕ) (s : Shown) (r : Reading) → Stands c n page j place false s → (blank c (suc j) || row c n page j .over) ≡ false
     → reads (c .f) n (fresh (c .h) false false s) (drop place page) ≡ Some r
     → Stands c n page (suc j) (place + r .taken) (r .over) (r .show) × Columns c n page j (r .show)
-      × (row c n page (suc j) .place ≡ place) × (row c n page (suc j) .taken ≡ r .taken)
+    × (row c n page (suc j) .place ≡ place) × (row c n page (suc j) .taken ≡ r .taken)
 unfolding effects screen-over row-cell taking-at fresh
 taking-step c n page j place s r h i e =
     let bs : List ℕ = drop place page in
@@ -99,18 +103,22 @@ taking-step c n page j place s r h i e =
     let many : r .taken ≡ count n (c .h) ps = ap (λ (x : Reading). x .taken) (g .1) ∙ (omega arith) in
     let show : r .show ≡ puts s₀ ps = ap (λ (x : Reading). x .show) (g .1) in
     let is : row c n page (suc j) ≡ record { place = place; positions = ps; taken = count n (c .h) ps; whole = row c n page j .whole && enough n (c .h) ps bs; over = some stops-all ps } =
-        taking-row c n page j i ∙ ap (taking-at c n page (row c n page j .whole)) (sym (h .at)) in
+    taking-row c n page j i ∙ ap (taking-at c n page (row c n page j .whole)) (sym (h .at)) in
     let hides : r .show .hidden ≡ screen-over c n page j = ap (λ (x : Shown). x .hidden) show ∙ hidden-is s₀ ps ∙ h .below in
     let cells : (p : ℕ) → cell-of (r .show .ring) (r .show .columns) p ≡ cell (row-field c n page j) ps p =
-        λ p. rw show (shows s₀ ps p refl refl refl refl ∙ ap (λ (f : Field). cell f ps p) (h .field)) in
-    let shown : Columns c n page j (r .show) = λ p. rw (hides, cells p, is) refl in
-    (record {
+    λ p. rw show (shows s₀ ps p refl refl refl refl ∙ ap (λ (f : Field). cell f ps p) (h .field)) in
+    let shown : Columns c n page j (r .show) = λ p. rw (hides, cells p, is) refl in (
+      record {
         at = rw is (omega arith);
         whole = rw (is, h .whole, g .0) refl;
         stop = rw is (ap (λ (x : Reading). x .over) (g .1));
         field = rw (is, show) (field-is s₀ ps refl ∙ ap (λ (f : Field). field-behind f (effective ps)) (h .field) ∙ sym (field-behind-append no-field (effects c n page j) (effective ps)));
-        below = rw (is, show) (below-is s₀ ps ∙ ap (λ (b : Bool). b || some ends-screen ps) (h .below))
-    }, shown, rw is refl, rw is (sym many))
+        below = rw (is, show) (below-is s₀ ps ∙ ap (λ (b : Bool). b || some ends-screen ps) (h .below));
+      },
+      shown,
+      rw is refl,
+      rw is (sym many),
+    )
 
 -- a row that takes nothing is read at once
 read-idle : (c : Shape) (n : ℕ) (bs : List ℕ) (idle over : Bool) (s : Shown) (r : Reading) → (idle || over) ≡ true → reads (c .f) n (fresh (c .h) idle over s) bs ≡ Some r
@@ -127,7 +135,7 @@ never-none c n place idle over s page t e =
 idles : (c : Shape) (n : ℕ) (page : List ℕ) (j place : ℕ) (idle over : Bool) (s : Shown) (r : Reading) → Stands c n page j place over s
     → (blank c (suc j) || row c n page j .over) ≡ true → (idle || over) ≡ true → reads (c .f) n (fresh (c .h) idle over s) (drop place page) ≡ Some r
     → Stands c n page (suc j) (place + r .taken) (r .over) (r .show) × Columns c n page j (r .show)
-      × (row c n page (suc j) .place ≡ place) × (row c n page (suc j) .taken ≡ r .taken)
+    × (row c n page (suc j) .place ≡ place) × (row c n page (suc j) .taken ≡ r .taken)
 idles c n page j place idle over s r h o t e =
     let i = idle-step c n page j place idle over s h o in
     let q = read-idle c n (drop place page) idle over s r t e in
@@ -138,7 +146,7 @@ idles c n page j place idle over s r h o t e =
 pub row-step : (c : Shape) (n : ℕ) (page : List ℕ) (j place : ℕ) (idle over : Bool) (s : Shown) (r : Reading) → Stands c n page j place over s → idle ≡ blank c (suc j)
     → reads (c .f) n (fresh (c .h) idle over s) (drop place page) ≡ Some r
     → Stands c n page (suc j) (place + r .taken) (r .over) (r .show) × Columns c n page j (r .show)
-      × (row c n page (suc j) .place ≡ place) × (row c n page (suc j) .taken ≡ r .taken)
+    × (row c n page (suc j) .place ≡ place) × (row c n page (suc j) .taken ≡ r .taken)
 row-step c n page j place true over s r h b e = idles c n page j place true over s r h (rw (← b) refl) refl e
 row-step c n page j place false true s r h b e = idles c n page j place false true s r h (rw (← b, ← h .stop) refl) refl e
 row-step c n page j place false false s r h b e = taking-step c n page j place s r h (rw (← b, ← h .stop) refl) e
@@ -173,9 +181,9 @@ never-whole c n page j (suc d) h =
     let z : suc d + j ≡ suc (d + j) = omega arith in
     let w = never-whole c n page j d h in
     rw z (⊎-elim
-        (λ (t : (blank c (suc (d + j)) || row c n page (d + j) .over) ≡ true). rw (idle-row c n page (d + j) t) w)
-        (λ (t : (blank c (suc (d + j)) || row c n page (d + j) .over) ≡ false). rw (taking-row c n page (d + j) t, w) refl)
-        (cases-bool (blank c (suc (d + j)) || row c n page (d + j) .over)))
+    (λ (t : (blank c (suc (d + j)) || row c n page (d + j) .over) ≡ true). rw (idle-row c n page (d + j) t) w)
+    (λ (t : (blank c (suc (d + j)) || row c n page (d + j) .over) ≡ false). rw (taking-row c n page (d + j) t, w) refl)
+    (cases-bool (blank c (suc (d + j)) || row c n page (d + j) .over)))
 
 pub at-top : (c : Shape) (n : ℕ) (page : List ℕ) (s : Shown) → s .field ≡ no-field → s .below ≡ false → Stands c n page 0 0 false s
 unfolding row effects screen-over

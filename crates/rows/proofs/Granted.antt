@@ -51,11 +51,11 @@ windowed c n page j place b p e w f =
     let d = length-drop place page in
     let l : length (take (b .take .taken) (drop place page)) ≡ b .take .taken = take-all-of (b .take .taken) (drop place page) (let v = f .within in omega arith) in
     record {
-        granted = e ∙ (rw w₂ refl);
-        begins = sym at;
-        takes = rw (at, many) refl;
-        joined = end-to-end c n page j ∙ (rw (at, many, l) refl);
-        empty = empty-rows c n page
+      granted = e ∙ (rw w₂ refl);
+      begins = sym at;
+      takes = rw (at, many) refl;
+      joined = end-to-end c n page j ∙ (rw (at, many, l) refl);
+      empty = empty-rows c n page;
     }
 
 -- a blank row is dark
@@ -119,11 +119,11 @@ own-positions c n page j w =
     ⊎-elim
     (λ (t : (blank c (suc j) || row c n page j .over) ≡ true). rw (idle-row c n page j t) (sym (no-bytes (c .f) (c .h))))
     (λ (t : (blank c (suc j) || row c n page j .over) ≡ false).
-        let from : ℕ = row c n page j .place + row c n page j .taken in
-        let i = taking-row c n page j t in
-        let at : row c n page (suc j) .place ≡ from = place-next c n page j in
-        let w₂ : taking-at c n page (row c n page j .whole) from .whole ≡ true = ap (λ (x : Row). x .whole) (sym i) ∙ w in
-        rw at (rw i (own-taking c n page (row c n page j .whole) from w₂)))
+    let from : ℕ = row c n page j .place + row c n page j .taken in
+    let i = taking-row c n page j t in
+    let at : row c n page (suc j) .place ≡ from = place-next c n page j in
+    let w₂ : taking-at c n page (row c n page j .whole) from .whole ≡ true = ap (λ (x : Row). x .whole) (sym i) ∙ w in
+    rw at (rw i (own-taking c n page (row c n page j .whole) from w₂)))
     (cases-bool (blank c (suc j) || row c n page j .over))
 
 own-suc : (c : Shape) (n : ℕ) (page : List ℕ) (q : Option (ℕ × ℕ)) (k j : ℕ) → row c n page (suc j) .whole ≡ true → (other : List ℕ) → row c n other (suc j) .whole ≡ true
@@ -132,7 +132,7 @@ own-suc : (c : Shape) (n : ℕ) (page : List ℕ) (q : Option (ℕ × ℕ)) (k j
 unfolding picture row-cell
 own-suc c n page q k j w other w₂ e f s line p =
     let ps : row c n other (suc j) .positions ≡ row c n page (suc j) .positions =
-        own-positions c n other j w₂ ∙ ap (row-positions (c .f) (c .h)) e ∙ sym (own-positions c n page j w) in
+    own-positions c n other j w₂ ∙ ap (row-positions (c .f) (c .h)) e ∙ sym (own-positions c n page j w) in
     rw (ps, f, s) refl
 
 own-only : (c : Shape) (n : ℕ) (page : List ℕ) (q : Option (ℕ × ℕ)) (k j : ℕ) → 1 ≤ j → row c n page (suc (j - 1)) .whole ≡ true → Own-only c n page q k j
@@ -140,7 +140,7 @@ own-only c n page q k j h w =
     let z : suc (j - 1) ≡ j = omega arith in
     subst
     (λ (m : ℕ). (other : List ℕ) → row c n other m .whole ≡ true → window c n other m ≡ window c n page m → row-field c n other (j - 1) ≡ row-field c n page (j - 1)
-        → screen-over c n other (j - 1) ≡ screen-over c n page (j - 1) → (line p : ℕ) → picture c n other q k m line p ≡ picture c n page q k m line p)
+    → screen-over c n other (j - 1) ≡ screen-over c n page (j - 1) → (line p : ℕ) → picture c n other q k m line p ≡ picture c n page q k m line p)
     z (own-suc c n page q k (j - 1) w)
 
 pub stilled : (c : Shape) (n : ℕ) (page : List ℕ) (q : Option (ℕ × ℕ)) (k j : ℕ) (out out₂ : List ℕ) → 1 ≤ j
@@ -154,12 +154,12 @@ stilled c n page q k j out out₂ h e w s words kept =
     let w₂ : row c n page j .whole ≡ true = ap (λ (i : ℕ). row c n page i .whole) (sym z) ∙ w in
     let same-row : (line p : ℕ) → picture c n page q k (suc (j - 1)) line p ≡ picture c n page q k j line p = λ line p. ap (λ (i : ℕ). picture c n page q k i line p) z in
     record {
-        granted = e ∙ (rw w₂ refl);
-        size = s;
-        words = λ line p a b. words line p a b ∙ same-row line p;
-        kept = kept;
-        margin = λ line p a b d. words line p a d ∙ margin-dark c n page q k (suc (j - 1)) line p b;
-        ahead-only = subst (λ (m : ℕ). Ahead-only c n page q k m) z (ahead-only c n page q k (j - 1) w);
-        own-only = own-only c n page q k j h w;
-        blank-dark = blank-dark c n page q k
+      granted = e ∙ (rw w₂ refl);
+      size = s;
+      words = λ line p a b. words line p a b ∙ same-row line p;
+      kept = kept;
+      margin = λ line p a b d. words line p a d ∙ margin-dark c n page q k (suc (j - 1)) line p b;
+      ahead-only = subst (λ (m : ℕ). Ahead-only c n page q k m) z (ahead-only c n page q k (j - 1) w);
+      own-only = own-only c n page q k j h w;
+      blank-dark = blank-dark c n page q k;
     }

@@ -50,12 +50,16 @@ plain f b m pre xs ys ih h c s =
   where
     Goal : Type 0
     Goal = upto stops (take (suc m) (read b ∷ positions f (pre ++ ys))) ≡ upto stops (take (suc m) (read b ∷ positions f (pre ++ xs)))
+
     c₂ : closed (suc m) (upto stops (take (suc m) (read b ∷ positions f (pre ++ xs)))) ≡ true
     c₂ = rw (positions-one f b (pre ++ xs) h) at c
+
     s₂ : size (upto stops (take (suc m) (read b ∷ positions f (pre ++ xs)))) ≤ suc (length pre)
     s₂ = rw (positions-one f b (pre ++ xs) h) at s
+
     stop : stops (read b) ≡ true → Goal
     stop e = rw e refl
+
     go : stops (read b) ≡ false → Goal
     go e =
         let t : upto stops (take (suc m) (read b ∷ positions f (pre ++ xs))) ≡ read b ∷ row-positions f m (pre ++ xs) = rw e refl in
@@ -79,10 +83,10 @@ same f (b ∷ []) xs ys (suc m) c s = ⊎-elim (λ (h : (not f && field-code b) 
 same f (b ∷ d ∷ pre) xs ys (suc m) c s =
     ⊎-elim
     (λ (h : (not f && field-code b) ≡ true).
-        let t : row-positions f (suc m) (b ∷ d ∷ (pre ++ xs)) ≡ Pair (field-of b) (d % 128) ∷ row-positions f m (pre ++ xs) = rw h refl in
-        let c₃ : closed m (row-positions f m (pre ++ xs)) ≡ true = sym (closed-more m (Pair (field-of b) (d % 128)) (row-positions f m (pre ++ xs)) refl) ∙ sym (ap (closed (suc m)) t) ∙ c in
-        let s₃ : size (row-positions f m (pre ++ xs)) ≤ length pre = omega (arith, ap size t, s) in
-        rw h (ap (λ (l : List Position). Pair (field-of b) (d % 128) ∷ l) (same f pre xs ys m c₃ s₃)))
+    let t : row-positions f (suc m) (b ∷ d ∷ (pre ++ xs)) ≡ Pair (field-of b) (d % 128) ∷ row-positions f m (pre ++ xs) = rw h refl in
+    let c₃ : closed m (row-positions f m (pre ++ xs)) ≡ true = sym (closed-more m (Pair (field-of b) (d % 128)) (row-positions f m (pre ++ xs)) refl) ∙ sym (ap (closed (suc m)) t) ∙ c in
+    let s₃ : size (row-positions f m (pre ++ xs)) ≤ length pre = omega (arith, ap size t, s) in
+    rw h (ap (λ (l : List Position). Pair (field-of b) (d % 128) ∷ l) (same f pre xs ys m c₃ s₃)))
     (λ (h : (not f && field-code b) ≡ false). plain f b m (d ∷ pre) xs ys (same f (d ∷ pre) xs ys) h c s)
     (cases-bool (not f && field-code b))
 
@@ -118,13 +122,14 @@ Inside c n pre xs j = (row c n (pre ++ xs) j .whole ≡ true) × (row c n (pre +
 inside-above : (c : Shape) (n : ℕ) (pre xs : List ℕ) (j : ℕ) → Inside c n pre xs (suc j) → Inside c n pre xs j
 inside-above c n pre xs j h =
     let next = place-next c n (pre ++ xs) j in
-    let e = h .1 in
-    (⊎-elim
-        (λ (t : (blank c (suc j) || row c n (pre ++ xs) j .over) ≡ true). ap (λ (x : Row). x .whole) (sym (idle-row c n (pre ++ xs) j t)) ∙ h .0)
-        (λ (t : (blank c (suc j) || row c n (pre ++ xs) j .over) ≡ false).
-            above-whole c n (pre ++ xs) (row c n (pre ++ xs) j .whole) (row c n (pre ++ xs) j .place + row c n (pre ++ xs) j .taken) (ap (λ (x : Row). x .whole) (sym (taking-row c n (pre ++ xs) j t)) ∙ h .0))
-        (cases-bool (blank c (suc j) || row c n (pre ++ xs) j .over)),
-     omega arith)
+    let e = h .1 in (
+      ⊎-elim
+          (λ (t : (blank c (suc j) || row c n (pre ++ xs) j .over) ≡ true). ap (λ (x : Row). x .whole) (sym (idle-row c n (pre ++ xs) j t)) ∙ h .0)
+          (λ (t : (blank c (suc j) || row c n (pre ++ xs) j .over) ≡ false).
+          above-whole c n (pre ++ xs) (row c n (pre ++ xs) j .whole) (row c n (pre ++ xs) j .place + row c n (pre ++ xs) j .taken) (ap (λ (x : Row). x .whole) (sym (taking-row c n (pre ++ xs) j t)) ∙ h .0))
+          (cases-bool (blank c (suc j) || row c n (pre ++ xs) j .over)),
+      omega arith,
+    )
 
 same-next : (c : Shape) (n : ℕ) (pre xs ys : List ℕ) (j : ℕ) → Inside c n pre xs (suc j) → row c n (pre ++ ys) j ≡ row c n (pre ++ xs) j
     → row c n (pre ++ ys) (suc j) ≡ row c n (pre ++ xs) (suc j)
@@ -132,8 +137,10 @@ same-next c n pre xs ys j h ih = ⊎-elim idle takes (cases-bool (blank c (suc j
   where
     r : Row
     r = row c n (pre ++ xs) j
+
     idle : (blank c (suc j) || row c n (pre ++ xs) j .over) ≡ true → row c n (pre ++ ys) (suc j) ≡ row c n (pre ++ xs) (suc j)
     idle t = idle-row c n (pre ++ ys) j (rw ih t) ∙ ap idle-below ih ∙ sym (idle-row c n (pre ++ xs) j t)
+
     takes : (blank c (suc j) || row c n (pre ++ xs) j .over) ≡ false → row c n (pre ++ ys) (suc j) ≡ row c n (pre ++ xs) (suc j)
     takes t =
         let i = taking-row c n (pre ++ xs) j t in

@@ -175,7 +175,7 @@ shows s ps p e₁ e₂ e₃ e₄ =
     let a : puts s ps .columns ≡ columns-of (s .field) 0 false ps = columns-are s ps ∙ (rw (e₁, e₂, e₃) refl) in
     let zeros : (i : ℕ) → getD (s .ring) (i % 16) 0 ≡ 0 = λ i. (rw e₄ (getD-replicate 16 (i % 16) 0 0 (omega arith))) in
     let m : (i : ℕ) → getD r (i % 16) 0 ≡ memory ps i = λ i.
-        ring-is s ps i (ap length e₄) ∙ (rw (e₃, zeros i) refl) in
+    ring-is s ps i (ap length e₄) ∙ (rw (e₃, zeros i) refl) in
     let z : (0 + length (characters (take p ps))) ≡ length (characters (take p ps)) = omega arith in
     ap (λ (ss : List Column). cell-of r ss p) a
     ∙ columns r (s .field) 0 ps p

@@ -28,8 +28,8 @@ pub put-joined :
     (ss : List Column) (l : ℕ) (r : List ℕ) (k : ℕ) (f : Field) (e b : Bool) (p : Position) (x : Column) (r₂ : List ℕ) (k₂ : ℕ) (f₂ : Field) (e₂ b₂ hid : Bool)
     → l < length ss → x ≡ cond e (Fixed Dark) (column (turned f p) k p) → r₂ ≡ stored r k p → k₂ ≡ counted k p → f₂ ≡ in-force e f p → e₂ ≡ ends p → b₂ ≡ ends-screen p
     → _≡_ {A = Shown}
-        (record { columns = take (l + 1) (set ss l x); ring = r₂; pairs = k₂; field = f₂; ended = e₂ || e; below = b₂ || b; hidden = hid })
-        (put (record { columns = take l ss; ring = r; pairs = k; field = f; ended = e; below = b; hidden = hid }) p)
+    (record { columns = take (l + 1) (set ss l x); ring = r₂; pairs = k₂; field = f₂; ended = e₂ || e; below = b₂ || b; hidden = hid })
+    (put (record { columns = take l ss; ring = r; pairs = k; field = f; ended = e; below = b; hidden = hid }) p)
 unfolding put
 put-joined ss l r k f e b p x r₂ k₂ f₂ e₂ b₂ hid h hx hr hk hf he hb =
     let t : take (l + 1) (set ss l x) ≡ take l ss ++ (x ∷ []) = rw (add-one, take-suc-set) in cc

@@ -34,7 +34,7 @@ same-mk t t₂ a a₂ o o₂ s l l₂ p q r e = cc
 unfoldable pub outcome : (n m k : ℕ) (o : Bool) → Shown → List Position → List ℕ → Option Reading
 outcome n m k o s ps bs =
     mk ((leb m (length ps) || some stops ps) && leb (size ps + dropped n m k ps) (length bs))
-        (k + (size ps + dropped n m k ps)) (o || some stops-all ps) (puts s ps) (drop (size ps + dropped n m k ps) bs)
+    (k + (size ps + dropped n m k ps)) (o || some stops-all ps) (puts s ps) (drop (size ps + dropped n m k ps) bs)
 
 unfoldable pub ready : (m k : ℕ) (o : Bool) → Shown → Buffer
 ready m k o s = record { take = record { phase = Ready; room = m; taken = k; over = o }; show = s }
@@ -52,10 +52,10 @@ shift₁ n m k o s x ps b bs h e =
     let d = dropped-more n m k (suc k) x ps h (omega arith) in
     let z : size (x ∷ ps) + dropped n (suc m) k (x ∷ ps) ≡ suc (size ps + dropped n m (suc k) ps) = omega arith in
     same-mk _ _ _ _ _ _ _ _ _
-        (rw (z, h, leb-suc m (length ps), leb-suc (size ps + dropped n m (suc k) ps) (length bs)) refl)
-        (omega arith)
-        (sym (or-assoc o (stops-all x) (some stops-all ps)))
-        (rw z refl)
+    (rw (z, h, leb-suc m (length ps), leb-suc (size ps + dropped n m (suc k) ps) (length bs)) refl)
+    (omega arith)
+    (sym (or-assoc o (stops-all x) (some stops-all ps)))
+    (rw z refl)
 
 shift₂ : (n m k : ℕ) (o : Bool) (s : Shown) (a : Field) (c : ℕ) (ps : List Position) (b b₂ : ℕ) (bs : List ℕ)
     → outcome n (suc m) k o s (Pair a c ∷ ps) (b ∷ b₂ ∷ bs) ≡ outcome n m (suc (suc k)) (o || false) (put s (Pair a c)) ps bs
@@ -64,10 +64,10 @@ shift₂ n m k o s a c ps b b₂ bs =
     let d = dropped-more n m k (suc (suc k)) (Pair a c) ps refl (omega arith) in
     let z : size (Pair a c ∷ ps) + dropped n (suc m) k (Pair a c ∷ ps) ≡ suc (suc (size ps + dropped n m (suc (suc k)) ps)) = omega arith in
     same-mk _ _ _ _ _ _ _ _ _
-        (rw (z, leb-suc m (length ps), leb-suc (suc (size ps + dropped n m (suc (suc k)) ps)) (suc (length bs)), leb-suc (size ps + dropped n m (suc (suc k)) ps) (length bs)) refl)
-        (omega arith)
-        (sym (or-assoc o false (some stops-all ps)))
-        (rw z refl)
+    (rw (z, leb-suc m (length ps), leb-suc (suc (size ps + dropped n m (suc (suc k)) ps)) (suc (length bs)), leb-suc (size ps + dropped n m (suc (suc k)) ps) (length bs)) refl)
+    (omega arith)
+    (sym (or-assoc o false (some stops-all ps)))
+    (rw z refl)
 
 pub reads-full : (f : Bool) (n : ℕ) (b : Buffer) (bs : List ℕ) → full (b .take) ≡ true → reads f n b bs ≡ ending b bs
 unfolding reads
@@ -101,13 +101,13 @@ eats-second f n m k o s a b = let z : suc m - 1 ≡ m = omega arith in rw z refl
 -- a stop code
 eats-stop : (f : Bool) (n m k : ℕ) (o : Bool) (s : Shown) (b : ℕ) → (not f && field-code b) ≡ false → stops (read b) ≡ true
     → eat f n (ready (suc m) k o s) b
-      ≡ record { take = record { phase = cond (eqb (suc k % n) 0 || leb (suc m) 1) Done Extra; room = m; taken = suc k; over = o || (stops-all (read b) || false) }; show = put s (read b) }
+    ≡ record { take = record { phase = cond (eqb (suc k % n) 0 || leb (suc m) 1) Done Extra; room = m; taken = suc k; over = o || (stops-all (read b) || false) }; show = put s (read b) }
 unfolding eat took ready puts
 eats-stop f n m k o s b h e = let z : suc m - 1 ≡ m = omega arith in rw (h, e, z) refl
 
 eats-extra : (f : Bool) (n m k : ℕ) (o : Bool) (s : Shown) (b : ℕ)
     → eat f n (record { take = record { phase = Extra; room = m; taken = k; over = o }; show = s }) b
-      ≡ record { take = record { phase = Done; room = m; taken = suc k; over = o }; show = s }
+    ≡ record { take = record { phase = Done; room = m; taken = suc k; over = o }; show = s }
 unfolding eat took ready puts
 eats-extra f n m k o s b = let z : m - 0 ≡ m = omega arith in rw (z, or-false o) refl
 
@@ -118,10 +118,10 @@ unfolding outcome puts
 outcome-stop n m k d a o s x b bs h w e g =
     let z : size (x ∷ []) + dropped n (suc m) k (x ∷ []) ≡ suc d = omega arith in
     same-mk _ _ _ _ _ _ _ _ _
-        (let t : (leb (suc m) 1 || true) ≡ true = grind (arith, tells) in rw (z, h, t, leb-suc d (length bs)) refl)
-        (omega arith)
-        refl
-        (rw z refl)
+    (let t : (leb (suc m) 1 || true) ≡ true = grind (arith, tells) in rw (z, h, t, leb-suc d (length bs)) refl)
+    (omega arith)
+    refl
+    (rw z refl)
 
 stop-done : (f : Bool) (n m k : ℕ) (o : Bool) (s : Shown) (x : Position) (ph : Phase) (b : ℕ) (bs : List ℕ) → stops x ≡ true → width x ≡ 1
     → ph ≡ Done → dropped n (suc m) k (x ∷ []) ≡ 0
@@ -150,8 +150,10 @@ stopped f n m k o s x ph b bs h e p = ⊎-elim last (other m bs p) (cases-bool (
   where
     sum : k + (width x + 0) ≡ suc k
     sum = omega arith
+
     last : eqb (suc k % n) 0 ≡ true → reads f n (record { take = record { phase = ph; room = m; taken = suc k; over = o || (stops-all x || false) }; show = put s x }) bs ≡ outcome n (suc m) k o s (x ∷ []) (b ∷ bs)
     last t = stop-done f n m k o s x ph b bs h e (p ∙ rw t refl) (let q : (ltb 1 (suc m) && true && false) ≡ false = grind (arith, tells) in rw (h, sum, t, q) refl)
+
     other : (m : ℕ) (bs : List ℕ) → ph ≡ cond (eqb (suc k % n) 0 || leb (suc m) 1) Done Extra → eqb (suc k % n) 0 ≡ false
         → reads f n (record { take = record { phase = ph; room = m; taken = suc k; over = o || (stops-all x || false) }; show = put s x }) bs ≡ outcome n (suc m) k o s (x ∷ []) (b ∷ bs)
     other zero bs p t = stop-done f n zero k o s x ph b bs h e (p ∙ rw t refl) refl
@@ -172,12 +174,14 @@ plain-byte f n m k o s b bs below h =
   where
     Goal : Type 0
     Goal = reads f n (eat f n (ready (suc m) k o s) b) bs ≡ outcome n (suc m) k o s (upto stops (take (suc m) (read b ∷ positions f bs))) (b ∷ bs)
+
     stop : stops (read b) ≡ true → Goal
     stop e = rw (eats-stop f n m k o s b h e, cond-true (stops (read b)) [] (upto stops (take m (positions f bs))) e) (stopped f n m k o s (read b) _ b bs e (width-read b) refl)
+
     go : stops (read b) ≡ false → Goal
     go e =
         rw (eats-plain f n m k o s b h e, cond-false (stops (read b)) [] (upto stops (take m (positions f bs))) e)
-            (below m (suc k) (o || stops-all (read b)) (put s (read b)) ∙ sym (shift₁ n m k o s (read b) (upto stops (take m (positions f bs))) b bs e (width-read b)))
+        (below m (suc k) (o || stops-all (read b)) (put s (read b)) ∙ sym (shift₁ n m k o s (read b) (upto stops (take m (positions f bs))) b bs e (width-read b)))
 
 pair-bytes : (f : Bool) (n m k : ℕ) (o : Bool) (s : Shown) (b c : ℕ) (cs : List ℕ) → Below f n cs → (not f && field-code b) ≡ true
     → reads f n (ready (suc m) k o s) (b ∷ c ∷ cs) ≡ outcome n (suc m) k o s (upto stops (take (suc m) (positions f (b ∷ c ∷ cs)))) (b ∷ c ∷ cs)

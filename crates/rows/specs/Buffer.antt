@@ -52,10 +52,10 @@ phase-after f last filled Done b = Done
 unfoldable pub took : (f : Bool) (n : ℕ) → Taken → ℕ → Taken
 took f n t b =
     record {
-        phase = phase-after f (eqb (suc (t .taken) % n) 0) (leb (t .room) 1) (t .phase) b;
-        room = t .room - length (fills f (t .phase) b);
-        taken = suc (t .taken);
-        over = t .over || some stops-all (fills f (t .phase) b)
+      phase = phase-after f (eqb (suc (t .taken) % n) 0) (leb (t .room) 1) (t .phase) b;
+      room = t .room - length (fills f (t .phase) b);
+      taken = suc (t .taken);
+      over = t .over || some stops-all (fills f (t .phase) b);
     }
 
 -- what a row will show: its columns, its field character memory and how many characters went into it, the field in force,
@@ -117,13 +117,13 @@ counted k Unused = k
 unfoldable pub put : Shown → Position → Shown
 put s p =
     record {
-        columns = s .columns ++ (cond (s .ended) (Fixed Dark) (column (turned (s .field) p) (s .pairs) p) ∷ []);
-        ring = stored (s .ring) (s .pairs) p;
-        pairs = counted (s .pairs) p;
-        field = in-force (s .ended) (s .field) p;
-        ended = ends p || s .ended;
-        below = ends-screen p || s .below;
-        hidden = s .hidden
+      columns = s .columns ++ (cond (s .ended) (Fixed Dark) (column (turned (s .field) p) (s .pairs) p) ∷ []);
+      ring = stored (s .ring) (s .pairs) p;
+      pairs = counted (s .pairs) p;
+      field = in-force (s .ended) (s .field) p;
+      ended = ends p || s .ended;
+      below = ends-screen p || s .below;
+      hidden = s .hidden;
     }
 
 unfoldable pub puts : Shown → List Position → Shown
@@ -148,8 +148,8 @@ top = record { take = record { phase = Done; room = 0; taken = 0; over = false }
 unfoldable pub fresh : (h : ℕ) (idle over : Bool) (above : Shown) → Buffer
 fresh h idle over above =
     record {
-        take = record { phase = cond (idle || over) Done Ready; room = h; taken = 0; over = over };
-        show = record { columns = []; ring = replicate 16 0; pairs = 0; field = above .field; ended = false; below = above .below; hidden = above .below }
+      take = record { phase = cond (idle || over) Done Ready; room = h; taken = 0; over = over };
+      show = record { columns = []; ring = replicate 16 0; pairs = 0; field = above .field; ended = false; below = above .below; hidden = above .below };
     }
 
 -- a row read to its end: how many bytes it took, what it leaves, the bytes behind it; none where the bytes do not suffice

@@ -39,11 +39,11 @@ idle-below r = record { place = r .place + r .taken; positions = []; taken = 0; 
 unfoldable pub taking-at : Shape → (n : ℕ) → (page : List ℕ) → (above : Bool) → (place : ℕ) → Row
 taking-at c n page above from =
     record {
-        place = from;
-        positions = row-positions (c .f) (c .h) (drop from page);
-        taken = count n (c .h) (row-positions (c .f) (c .h) (drop from page));
-        whole = above && enough n (c .h) (row-positions (c .f) (c .h) (drop from page)) (drop from page);
-        over = some stops-all (row-positions (c .f) (c .h) (drop from page))
+      place = from;
+      positions = row-positions (c .f) (c .h) (drop from page);
+      taken = count n (c .h) (row-positions (c .f) (c .h) (drop from page));
+      whole = above && enough n (c .h) (row-positions (c .f) (c .h) (drop from page)) (drop from page);
+      over = some stops-all (row-positions (c .f) (c .h) (drop from page));
     }
 
 -- row j of a page by bursts of n bytes; row 0 stands above the first

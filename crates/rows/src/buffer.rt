@@ -20,7 +20,11 @@ use video::field::Field;
 fn opened(idle: bool, over: bool) -> Phase
     ensures { λ r. ⌜ r ≡ cond (idle || over) Done Ready ⌝ }
 {
-    if idle | over { Phase::Done } else { Phase::Ready }
+    if idle | over {
+        Phase::Done
+    } else {
+        Phase::Ready
+    }
 }
 
 impl RowBuffer {
@@ -29,7 +33,12 @@ impl RowBuffer {
         ensures { λ r. ⌜ buffer-of r ≡ top ⌝ }
     {
         RowBuffer {
-            take: Taking { phase: Phase::Done, room: 0, taken: 0, over: false },
+            take: Taking {
+                phase: Phase::Done,
+                room: 0,
+                taken: 0,
+                over: false,
+            },
             show: Showing {
                 columns: [Column::Fixed(Cell::Dark); 80],
                 len: 0,
@@ -49,7 +58,12 @@ impl RowBuffer {
     {
         let phase = opened(idle, over);
         RowBuffer {
-            take: Taking { phase, room: composition.columns, taken: 0, over },
+            take: Taking {
+                phase,
+                room: composition.columns,
+                taken: 0,
+                over,
+            },
             show: Showing {
                 columns: [Column::Fixed(Cell::Dark); 80],
                 len: 0,

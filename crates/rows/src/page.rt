@@ -22,7 +22,14 @@ pub fn blank(composition: &Composition, row: u8) -> bool
 }
 
 // The row below `above`, from the byte number `at` on.
-fn next_row(composition: &Composition, n: u8, page: &[u8], at: usize, above: RowBuffer, idle: bool) -> Option<RowBuffer>
+fn next_row(
+    composition: &Composition,
+    n: u8,
+    page: &[u8],
+    at: usize,
+    above: RowBuffer,
+    idle: bool,
+) -> Option<RowBuffer>
     requires { ⌜ 1 ≤ n ⌝ ∗ ⌜ at ≤ length (now page) ⌝ }
     ensures row { λ r. ⌜ ((j : ℕ) → Behind (shape-of (now (composition .entry))) n (now (page .entry)) j at above → idle ≡ blank (shape-of (now (composition .entry))) (suc j)
         → Next (shape-of (now (composition .entry))) n (now (page .entry)) j at r) ⌝ }
@@ -67,7 +74,15 @@ pub fn cursor_in(cursor: Option<(u8, u8)>, row: u16, p: u8) -> bool
 }
 
 // The picture bits of clock p of a line of row j + 1, which was found.
-fn picture(composition: &Composition, cursor: Option<(u8, u8)>, blink: u8, found: &Found, j: u8, line: u8, p: u8) -> u32
+fn picture(
+    composition: &Composition,
+    cursor: Option<(u8, u8)>,
+    blink: u8,
+    found: &Found,
+    j: u8,
+    line: u8,
+    p: u8,
+) -> u32
     ensures { λ r. ⌜ ((n : ℕ) (page : List ℕ) → Finds (shape-of (now (composition .entry))) n page j (now (found .entry) .place) (now (found .entry) .row)
         → r ≡ picture (shape-of (now (composition .entry))) n page cursor blink (suc j) line p) ⌝ }
 {
@@ -79,7 +94,16 @@ fn picture(composition: &Composition, cursor: Option<(u8, u8)>, blink: u8, found
 }
 
 // A line of row j + 1, which was found, into `out` from number `from` on.
-fn write_line(composition: &Composition, cursor: Option<(u8, u8)>, blink: u8, found: &Found, j: u8, line: u8, out: &mut [u32], from: usize)
+fn write_line(
+    composition: &Composition,
+    cursor: Option<(u8, u8)>,
+    blink: u8,
+    found: &Found,
+    j: u8,
+    line: u8,
+    out: &mut [u32],
+    from: usize,
+)
     requires { ⌜ from + width (shape-of (now composition)) ≤ length (now out) ⌝ }
     ensures size { λ _. ⌜ length (now (out .exit)) ≡ length (now (out .entry)) ⌝ }
     ensures words { λ _. ⌜ ((n : ℕ) (page : List ℕ) → Finds (shape-of (now (composition .entry))) n page j (now (found .entry) .place) (now (found .entry) .row)
@@ -92,7 +116,14 @@ fn write_line(composition: &Composition, cursor: Option<(u8, u8)>, blink: u8, fo
 }
 
 // Every line of row j + 1, which was found.
-pub(crate) fn write_lines(composition: &Composition, cursor: Option<(u8, u8)>, blink: u8, found: &Found, j: u8, out: &mut [u32])
+pub(crate) fn write_lines(
+    composition: &Composition,
+    cursor: Option<(u8, u8)>,
+    blink: u8,
+    found: &Found,
+    j: u8,
+    out: &mut [u32],
+)
     requires { ⌜ now composition .lines * width (shape-of (now composition)) ≤ length (now out) ⌝ }
     ensures size { λ _. ⌜ length (now (out .exit)) ≡ length (now (out .entry)) ⌝ }
     ensures words { λ _. ⌜ ((n : ℕ) (page : List ℕ) → Finds (shape-of (now (composition .entry))) n page j (now (found .entry) .place) (now (found .entry) .row)
@@ -102,6 +133,15 @@ pub(crate) fn write_lines(composition: &Composition, cursor: Option<(u8, u8)>, b
 {
     let w = (composition.columns + composition.retrace) as usize;
     for line in 0..composition.lines {
-        write_line(composition, cursor, blink, found, j, line, out, line as usize * w);
+        write_line(
+            composition,
+            cursor,
+            blink,
+            found,
+            j,
+            line,
+            out,
+            line as usize * w,
+        );
     }
 }

@@ -37,7 +37,11 @@ impl<'a> PageReader<'a> {
     pub fn new(composition: Composition, burst: BurstSize, page: &'a [u8]) -> PageReader<'a>
         ensures { λ r. ⌜ (r .composition ≡ composition) × (r .burst ≡ burst) × (now (r .page) ≡ now (page .entry)) ⌝ }
     {
-        PageReader { page, composition, burst }
+        PageReader {
+            page,
+            composition,
+            burst,
+        }
     }
 
     // The page is not too long, and has such a row.
@@ -74,20 +78,32 @@ impl<'a> PageReader<'a> {
             Some(found) => {
                 let place = found.place;
                 let end = place + found.row.take.taken as usize;
-                Ok(RowWindow { bytes: &self.page[place..end], place })
+                Ok(RowWindow {
+                    bytes: &self.page[place..end],
+                    place,
+                })
             }
         }
     }
 
     // The page's picture of a row, into the first words of `out`.
-    pub fn still(&self, row: u8, cursor: Option<(u8, u8)>, blink: u8, out: &mut [u32]) -> Result<(), Refusal>
+    pub fn still(
+        &self,
+        row: u8,
+        cursor: Option<(u8, u8)>,
+        blink: u8,
+        out: &mut [u32],
+    ) -> Result<(), Refusal>
         ensures { λ r. ⌜ Cases r
             (λ _. Still (shape-of (now (self .entry) .composition)) (burst-bytes (now (self .entry) .burst)) (now (now (self .entry) .page)) cursor blink row (now (out .entry)) (now (out .exit)))
             (λ e. (still-refusal (shape-of (now (self .entry) .composition)) (burst-bytes (now (self .entry) .burst)) (now (now (self .entry) .page)) row (length (now (out .entry))) ≡ Some e)
-                × (now (out .exit) ≡ now (out .entry))) ⌝ }
+            × (now (out .exit) ≡ now (out .entry))) ⌝ }
     {
         self.check(row)?;
-        if out.len() < self.composition.lines as usize * (self.composition.columns + self.composition.retrace) as usize {
+        if out.len()
+            < self.composition.lines as usize
+                * (self.composition.columns + self.composition.retrace) as usize
+        {
             return Err(Refusal::BufferTooSmall);
         }
         match locate(&self.composition, self.burst.bytes(), self.page, row - 1) {

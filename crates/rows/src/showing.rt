@@ -89,7 +89,11 @@ impl Showing {
         if self.hidden {
             return Cell::Dark;
         }
-        let column = if p < self.len { self.columns[p as usize] } else { Column::Fixed(Cell::Dark) };
+        let column = if p < self.len {
+            self.columns[p as usize]
+        } else {
+            Column::Fixed(Cell::Dark)
+        };
         resolved(&self.ring, column)
     }
 }

@@ -90,10 +90,20 @@ impl Taking {
         let phase = next_phase(opaque, taken % n == 0, self.room <= 1, self.phase, b);
         let came = filled(opaque, self.phase, b);
         match came {
-            None => *self = Taking { phase, room: self.room, taken, over: self.over },
+            None => *self = Taking {
+                phase,
+                room: self.room,
+                taken,
+                over: self.over,
+            },
             Some(p) => {
                 let over = self.over | stops_all(p);
-                *self = Taking { phase, room: self.room - 1, taken, over };
+                *self = Taking {
+                    phase,
+                    room: self.room - 1,
+                    taken,
+                    over,
+                };
             }
         }
         came

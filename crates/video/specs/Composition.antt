@@ -40,18 +40,32 @@ allowed first = leb (first % 128) 79
 abbrev pub composed : (first second third fourth : ℕ) → Shape
 composed p q s t =
     record {
-        spaced = leb 128 p; h = p % 128 + 1;
-        v = q / 64 % 4 + 1; r = q % 64 + 1;
-        u = s / 16 % 16; l = s % 16 + 1;
-        offset = leb 128 t; f = eqb (t / 64 % 2) 1; cursor = cursor-format (t / 16 % 4); z = 2 * (t % 16) + 2
+      spaced = leb 128 p;
+      h = p % 128 + 1;
+      v = q / 64 % 4 + 1;
+      r = q % 64 + 1;
+      u = s / 16 % 16;
+      l = s % 16 + 1;
+      offset = leb 128 t;
+      f = eqb (t / 64 % 2) 1;
+      cursor = cursor-format (t / 16 % 4);
+      z = 2 * (t % 16) + 2;
     }
 
 -- the composition that the library holds
 abbrev pub shape-of : Composition → Shape
 shape-of c =
     record {
-        h = c .columns; z = c .retrace; l = c .lines; r = c .rows; v = c .vretrace; u = c .underline;
-        f = c .opaque; offset = c .offset; spaced = c .spaced; cursor = c .cursor
+      h = c .columns;
+      z = c .retrace;
+      l = c .lines;
+      r = c .rows;
+      v = c .vretrace;
+      u = c .underline;
+      f = c .opaque;
+      offset = c .offset;
+      spaced = c .spaced;
+      cursor = c .cursor;
     }
 
 -- the clocks of a line

@@ -18,7 +18,7 @@ use Rattle.video.specs.declared.cell.Cell.the-variants.{Dark, Text, Symbol}
 -- the graphic codes 0 to 11: above the line U, on it, below it
 abbrev pub marks : List (Mark × Mark × Mark)
 marks =
-      (Vsp, La10, La01) ∷ (Vsp, La11, La01) ∷ (La01, La10, Vsp) ∷ (La01, La11, Vsp)
+    (Vsp, La10, La01) ∷ (Vsp, La11, La01) ∷ (La01, La10, Vsp) ∷ (La01, La11, Vsp)
     ∷ (Vsp, Lten, La01) ∷ (La01, La11, La01) ∷ (La01, La10, La01) ∷ (La01, Lten, Vsp)
     ∷ (Vsp, Lten, Vsp) ∷ (La01, La01, La01) ∷ (La01, Lten, La01) ∷ (Plain, Plain, Plain) ∷ []
 
@@ -40,17 +40,30 @@ marked La11 = (true, true, false, false)
 abbrev pub text-signals : (u line blink cc : ℕ) → Field → Signals
 text-signals u line k c f =
     record {
-        cc = c; la1 = false; la0 = false; lten = f .underline && eqb line u; rvv = f .reverse;
-        vsp = f .blink && leb 16 k; hglt = f .highlight; gpa1 = f .gpa1; gpa0 = f .gpa0
+      cc = c;
+      la1 = false;
+      la0 = false;
+      lten = f .underline && eqb line u;
+      rvv = f .reverse;
+      vsp = f .blink && leb 16 k;
+      hglt = f .highlight;
+      gpa1 = f .gpa1;
+      gpa0 = f .gpa0;
     }
 
 -- a graphic byte: code in bits 5 to 2, blink in bit 1, highlight in bit 0
 abbrev pub graphic-signals : (u line blink byte : ℕ) → Field → Signals
 graphic-signals u line k b f =
     record {
-        cc = b % 128; la1 = marked (mark u line (b / 4 % 16)) .0; la0 = marked (mark u line (b / 4 % 16)) .1;
-        lten = marked (mark u line (b / 4 % 16)) .2; rvv = f .reverse;
-        vsp = marked (mark u line (b / 4 % 16)) .3 || (has 2 b && leb 16 k); hglt = has 1 b; gpa1 = f .gpa1; gpa0 = f .gpa0
+      cc = b % 128;
+      la1 = marked (mark u line (b / 4 % 16)) .0;
+      la0 = marked (mark u line (b / 4 % 16)) .1;
+      lten = marked (mark u line (b / 4 % 16)) .2;
+      rvv = f .reverse;
+      vsp = marked (mark u line (b / 4 % 16)) .3 || (has 2 b && leb 16 k);
+      hglt = has 1 b;
+      gpa1 = f .gpa1;
+      gpa0 = f .gpa0;
     }
 
 -- with U of 8 or more the first and the last line have VSP
@@ -73,10 +86,15 @@ is-block Underline = false
 abbrev pub finished : Shape → (line blink : ℕ) (here : Bool) → Signals → Signals
 finished c line k here x =
     record {
-        cc = x .cc; la1 = x .la1; la0 = x .la0; hglt = x .hglt; gpa1 = x .gpa1; gpa0 = x .gpa0;
-        lten = x .lten || (here && cursor-acts (c .cursor) k && not (is-block (c .cursor)) && eqb line (c .u));
-        rvv = cond (here && cursor-acts (c .cursor) k && is-block (c .cursor)) (not (x .rvv)) (x .rvv);
-        vsp = x .vsp || blanked (c .u) (c .l) line
+      cc = x .cc;
+      la1 = x .la1;
+      la0 = x .la0;
+      hglt = x .hglt;
+      gpa1 = x .gpa1;
+      gpa0 = x .gpa0;
+      lten = x .lten || (here && cursor-acts (c .cursor) k && not (is-block (c .cursor)) && eqb line (c .u));
+      rvv = cond (here && cursor-acts (c .cursor) k && is-block (c .cursor)) (not (x .rvv)) (x .rvv);
+      vsp = x .vsp || blanked (c .u) (c .l) line;
     }
 
 abbrev pub bit : Bool → ℕ

@@ -156,8 +156,26 @@ impl Cell {
         let underline = composition.underline;
         match self {
             Cell::Dark => dark_word(count, false, false),
-            Cell::Text(cc, field) => signals_word(count, finished(composition, line, blink, here, text_signals(underline, line, blink, cc, field))),
-            Cell::Symbol(byte, field) => signals_word(count, finished(composition, line, blink, here, graphic_signals(underline, line, blink, byte, field))),
+            Cell::Text(cc, field) => signals_word(
+                count,
+                finished(
+                    composition,
+                    line,
+                    blink,
+                    here,
+                    text_signals(underline, line, blink, cc, field),
+                ),
+            ),
+            Cell::Symbol(byte, field) => signals_word(
+                count,
+                finished(
+                    composition,
+                    line,
+                    blink,
+                    here,
+                    graphic_signals(underline, line, blink, byte, field),
+                ),
+            ),
         }
     }
 }

@@ -17,7 +17,14 @@ impl Field {
     pub fn none() -> Field
         ensures { λ r. ⌜ r ≡ no-field ⌝ }
     {
-        Field { underline: false, reverse: false, gpa1: false, gpa0: false, blink: false, highlight: false }
+        Field {
+            underline: false,
+            reverse: false,
+            gpa1: false,
+            gpa0: false,
+            blink: false,
+            highlight: false,
+        }
     }
 
     // The field that a code's low six bits ask for.

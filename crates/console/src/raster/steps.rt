@@ -31,7 +31,11 @@ fn idle(composition: &Composition, row: u8) -> bool
 fn pause(burst: Burst, k: u8) -> u8
     ensures { λ r. ⌜ r ≡ pause (bursts-of burst) k ⌝ }
 {
-    if k % burst.size.bytes() == 0 { burst.space } else { 0 }
+    if k % burst.size.bytes() == 0 {
+        burst.space
+    } else {
+        0
+    }
 }
 
 impl Raster {
@@ -46,7 +50,10 @@ impl Raster {
             blink: 0,
             armed: false,
             dark: false,
-            burst: Burst { size: BurstSize::One, space: 0 },
+            burst: Burst {
+                size: BurstSize::One,
+                space: 0,
+            },
             gap: 0,
             fill: top,
             shown: top.show,
@@ -124,7 +131,12 @@ impl Raster {
             × (now (self .exit) .column ≡ now (self .entry) .column) × (now (self .exit) .blink ≡ now (self .entry) .blink) ⌝ }
     {
         let late = self.underrun();
-        let next = RowBuffer::fresh(composition, idle(composition, self.row + 1), self.fill.take.over, &self.fill.show);
+        let next = RowBuffer::fresh(
+            composition,
+            idle(composition, self.row + 1),
+            self.fill.take.over,
+            &self.fill.show,
+        );
         self.dark = self.dark | late;
         self.gap = 0;
         self.shown = self.fill.show;
@@ -140,7 +152,9 @@ impl Raster {
         let vrtc = (self.row == 0) | (self.row > composition.rows);
         if self.armed & (!self.dark & (!vrtc & !hrtc)) {
             let here = cursor_in(cursor, self.row as u16, self.column);
-            self.shown.cell(self.column).word(composition, self.line, self.blink, here)
+            self.shown
+                .cell(self.column)
+                .word(composition, self.line, self.blink, here)
         } else {
             dark_word(composition.line_count(self.line), hrtc, vrtc)
         }

@@ -28,7 +28,11 @@ fn bit(b: bool) -> u32
 fn pen_row(composition: &Composition, row: u8) -> u8
     ensures { λ r. ⌜ r ≡ pen-row (shape-of (now (composition .entry))) row ⌝ }
 {
-    if row == 0 { composition.rows + composition.vretrace - 1 } else { row - 1 }
+    if row == 0 {
+        composition.rows + composition.vretrace - 1
+    } else {
+        row - 1
+    }
 }
 
 impl Console {
@@ -37,7 +41,8 @@ impl Console {
         ensures state { λ _. ⌜ state-of (now (self .exit)) ≡ interrupted (shape-of (now (composition .entry))) (state-of (now (self .entry))) ⌝ }
         ensures same { λ _. ⌜ now (self .exit) .composition ≡ now (self .entry) .composition ⌝ }
     {
-        let last = (self.raster.row == composition.rows) & ((self.raster.line == 0) & (self.raster.column == 0));
+        let last = (self.raster.row == composition.rows)
+            & ((self.raster.line == 0) & (self.raster.column == 0));
         self.flags.ir = self.flags.ir | (self.ie & last);
     }
 
@@ -82,7 +87,9 @@ impl Console {
     fn word(&self, composition: &Composition) -> u32
         ensures { λ r. ⌜ r ≡ word (shape-of (now (composition .entry))) (now (self .entry) .cursor) (now (self .entry) .flags .ir) (core-of (now (self .entry) .raster)) ⌝ }
     {
-        self.raster.picture(composition, self.cursor) + 0x400000 * bit(self.raster.wants()) + 0x800000 * bit(self.flags.ir)
+        self.raster.picture(composition, self.cursor)
+            + 0x400000 * bit(self.raster.wants())
+            + 0x800000 * bit(self.flags.ir)
     }
 
     // What came is stored; the seventeenth field character of a row overruns the memory.

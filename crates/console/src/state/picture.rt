@@ -29,11 +29,16 @@ impl Console {
         ensures { λ r. ⌜ Cases r
             (λ _. Still-of (state-of (now (self .entry))) (now (page .entry)) row (now (out .entry)) (now (out .exit)))
             (λ e. (still-refused (state-of (now (self .entry)) .shape) (state-of (now (self .entry)) .control .bursts .n) (now (page .entry)) row (length (now (out .entry))) ≡ Some e)
-                × (now (out .exit) ≡ now (out .entry))) ⌝ }
+            × (now (out .exit) ≡ now (out .entry))) ⌝ }
     {
         match self.composition {
             None => Err(Refusal::NoComposition),
-            Some(composition) => PageReader::new(composition, self.burst.size, page).still(row, self.cursor, self.raster.blink, out),
+            Some(composition) => PageReader::new(composition, self.burst.size, page).still(
+                row,
+                self.cursor,
+                self.raster.blink,
+                out,
+            ),
         }
     }
 }

@@ -46,15 +46,20 @@ impl Console {
 
     // Plays calls over one source, and puts their answers behind those that are there. Room for all of them is made first, so that
     // want of memory alters nothing.
-    pub fn play<S: Source>(&mut self, source: &mut S, calls: &[Call], answers: &mut Vec<Answer>) -> Result<(), Refusal>
+    pub fn play<S: Source>(
+        &mut self,
+        source: &mut S,
+        calls: &[Call],
+        answers: &mut Vec<Answer>,
+    ) -> Result<(), Refusal>
         ensures played { λ r. ⌜ Cases r
             (λ _. Played (state-of (now (self .entry))) (means (now (source .entry))) (now (calls .entry)) (vec-items (now (answers .entry)))
-                (state-of (now (self .exit))) (means (now (source .exit))) (vec-items (now (answers .exit))))
+            (state-of (now (self .exit))) (means (now (source .exit))) (vec-items (now (answers .exit))))
             (λ e. (e ≡ OutOfMemory) × (now (self .exit) ≡ now (self .entry)) × (now (source .exit) ≡ now (source .entry))
-                × (vec-items (now (answers .exit)) ≡ vec-items (now (answers .entry)))) ⌝ }
+            × (vec-items (now (answers .exit)) ≡ vec-items (now (answers .entry)))) ⌝ }
         ensures law { λ r. ⌜ Cases r
             (λ _. Lawful (state-of (now (self .entry))) (means (now (source .entry))) (now (calls .entry)) (vec-items (now (answers .entry)))
-                (state-of (now (self .exit))) (vec-items (now (answers .exit))))
+            (state-of (now (self .exit))) (vec-items (now (answers .exit))))
             (λ _. Unit {0}) ⌝ }
         ensures harmless { λ _. ⌜ Harmless ⌝ }
     {

@@ -12,8 +12,8 @@ use frame::burst::Burst;
 use frame::flags::Flags;
 use frame::pending::Pending;
 use refusal::Refusal;
-use video::composition::Composition;
 use rows::burst::BurstSize;
+use video::composition::Composition;
 
 fn bit(b: bool) -> u8
     ensures { λ r. ⌜ r ≡ bit b ⌝ }
@@ -40,10 +40,19 @@ impl Console {
             pending: Pending::Nothing,
             ve: false,
             ie: false,
-            burst: Burst { size: BurstSize::One, space: 0 },
+            burst: Burst {
+                size: BurstSize::One,
+                space: 0,
+            },
             cursor: None,
             raster: Raster::new(),
-            flags: Flags { ir: false, lp: false, ic: false, du: false, fo: false },
+            flags: Flags {
+                ir: false,
+                lp: false,
+                ic: false,
+                du: false,
+                fo: false,
+            },
             pen: (0, 0),
         }
     }
@@ -113,7 +122,11 @@ impl Console {
             (Pending::Reset1, first) if first % 128 > 79 => return Err(Refusal::TooManyColumns),
             (Pending::Reset1, first) => self.pending = Pending::Reset2(first),
             (Pending::Reset2(first), second) => self.pending = Pending::Reset3(first, second),
-            (Pending::Reset3(first, second), third) => self.pending = Pending::Reset4(first, second, third),
+            (Pending::Reset3(first, second), third) => self.pending = Pending::Reset4(
+                first,
+                second,
+                third,
+            ),
             (Pending::Reset4(first, second, third), fourth) => {
                 let composition = Composition::from_parameters(first, second, third, fourth)?;
                 self.pending = Pending::Nothing;
@@ -136,7 +149,13 @@ impl Console {
         ensures state { λ _. ⌜ state-of (now (self .exit)) ≡ status-read (state-of (now (self .entry))) ⌝ }
     {
         let flags = self.flags;
-        self.flags = Flags { ir: false, lp: false, ic: false, du: false, fo: false };
+        self.flags = Flags {
+            ir: false,
+            lp: false,
+            ic: false,
+            du: false,
+            fo: false,
+        };
         0x40 * bit(self.ie)
             + 0x20 * bit(flags.ir)
             + 0x10 * bit(flags.lp)

@@ -22,7 +22,12 @@ fn cursor_format(code: u8) -> CursorFormat
 
 impl Composition {
     // The composition that four parameters ask for.
-    pub fn from_parameters(first: u8, second: u8, third: u8, fourth: u8) -> Result<Composition, Refusal>
+    pub fn from_parameters(
+        first: u8,
+        second: u8,
+        third: u8,
+        fourth: u8,
+    ) -> Result<Composition, Refusal>
         ensures composed { λ r. ⌜ Cases r (λ c. (allowed first ≡ true) × (shape-of c ≡ composed first second third fourth)) (λ e. (allowed first ≡ false) × (e ≡ TooManyColumns)) ⌝ }
         ensures proper { λ r. ⌜ Cases r (λ c. Proper (shape-of c)) (λ _. Unit {0}) ⌝ }
     {

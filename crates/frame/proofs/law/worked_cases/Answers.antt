@@ -8,6 +8,17 @@ pub returns : need.returns
 unfolding taking-at row effects screen-over row-cell line-clocks span total seek first-free pause opens takes late
 returns c =
     record {
-        widest = refl; too-wide = refl; clocks = refl; first-byte = refl; second-byte = refl; third-byte = refl; fourth-byte = refl;
-        timely = refl; tardy = refl; drops = refl; last-of-burst = refl; pairs = refl; shows = refl
+      widest = refl;
+      too-wide = refl;
+      clocks = refl;
+      first-byte = refl;
+      second-byte = refl;
+      third-byte = refl;
+      fourth-byte = refl;
+      timely = refl;
+      tardy = refl;
+      drops = refl;
+      last-of-burst = refl;
+      pairs = refl;
+      shows = refl;
     }

@@ -15,10 +15,11 @@ returns-then-full c = record { fits = omega (arith, c .loop-b .inv .0); row = re
 pub loop-b-again : need.loop-b-again
 unfolding eat took
 loop-b-again c =
-    let t = ap (λ (b : Buffer). b .take .taken) (c .eat .ensures) in
-    (omega arith,
-     read-more (c .args .opaque) (c .args .n) (buffer-of (c .loop-b .row)) _ (c .args .part .now) (c .loop-b .b-index) (c .loop-b-test .taken) (sym (c .full .ensures) ∙ c .if-full .left) (c .eat .ensures)
-     ∙ c .loop-b .inv .1)
+    let t = ap (λ (b : Buffer). b .take .taken) (c .eat .ensures) in (
+      omega arith,
+      read-more (c .args .opaque) (c .args .n) (buffer-of (c .loop-b .row)) _ (c .args .part .now) (c .loop-b .b-index) (c .loop-b-test .taken) (sym (c .full .ensures) ∙ c .if-full .left) (c .eat .ensures)
+          ∙ c .loop-b .inv .1,
+    )
 
 pub returns-then-full-2 : need.returns-then-full-2
 returns-then-full-2 c = record { fits = omega (arith, c .loop-b .inv .0); row = read-done (c .args .opaque) (c .args .n) (c .loop-b .row) (c .args .part .now) (c .loop-b .b-index) (c .loop-b .inv .0) (sym (c .full-2 .ensures) ∙ c .if-full-2 .taken) ∙ c .loop-b .inv .1 }

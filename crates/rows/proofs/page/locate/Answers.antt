@@ -25,7 +25,7 @@ returns-in-None c =
     let i = c .loop-i .i in
     let one : i + 1 ≡ suc i = omega arith in
     ends-early (shape-of (c .args .composition .now)) (c .args .n) (c .args .page .now) i (c .args .j) (c .loop-i-test .taken)
-        (c .in-None .ensures tt .row i (c .loop-i .inv .0) (c .blank-idle .ensures ∙ ap (blank (shape-of (c .args .composition .now))) one))
+    (c .in-None .ensures tt .row i (c .loop-i .inv .0) (c .blank-idle .ensures ∙ ap (blank (shape-of (c .args .composition .now))) one))
 
 pub loop-i-again : need.loop-i-again
 loop-i-again c =

@@ -20,7 +20,7 @@ returns c =
     let f = c .fill .ensures .fits in
     let l : length (take (length (c .args .page .now) - c .args .at) (drop (c .args .at) (c .args .page .now))) ≡ length (c .args .page .now) - c .args .at = ap length part ∙ length-drop (c .args .at) (c .args .page .now) in
     record {
-        row = λ j h b. next-read (shape-of (c .args .composition .now)) (c .args .n) (c .args .page .now) j (c .args .at) (c .args .idle) (c .args .above) (c .fresh-start .result) (c .fill .result) h b (c .fresh-start .ensures)
-            (sym (ap (read-of (c .fill .result)) part) ∙ c .fill .ensures .row ∙ ap (reads (c .args .composition .now .opaque) (c .args .n) (buffer-of (c .fresh-start .result))) part);
-        fits = omega (arith, c .pre .1)
+      row = λ j h b. next-read (shape-of (c .args .composition .now)) (c .args .n) (c .args .page .now) j (c .args .at) (c .args .idle) (c .args .above) (c .fresh-start .result) (c .fill .result) h b (c .fresh-start .ensures)
+          (sym (ap (read-of (c .fill .result)) part) ∙ c .fill .ensures .row ∙ ap (reads (c .args .composition .now .opaque) (c .args .n) (buffer-of (c .fresh-start .result))) part);
+      fits = omega (arith, c .pre .1);
     }

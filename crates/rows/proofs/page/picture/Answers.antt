@@ -13,4 +13,4 @@ returns-then-p-composition c = λ n page f.
 pub returns : need.returns
 returns c = λ n page f.
     shows-it (shape-of (c .args .composition .now)) n page (c .args .cursor) (c .args .blink) (c .args .j) (c .args .line) (c .args .p) (shown-of (c .args .found .now .row .show)) _ _ _
-        (c .if-p-composition .left) (f .columns) (c .cursor-in-here .ensures ∙ (rw add-one refl)) (c .cell .ensures) (c .word .ensures .is)
+    (c .if-p-composition .left) (f .columns) (c .cursor-in-here .ensures ∙ (rw add-one refl)) (c .cell .ensures) (c .word .ensures .is)

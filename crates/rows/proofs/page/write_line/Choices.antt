@@ -12,5 +12,5 @@ abbrev pub Inv-loop-p : given.InvT-loop-p
 Inv-loop-p l =
     (length (l .out) ≡ length (l .entry .out))
     × ((n : ℕ) (page : List ℕ) → Finds (shape-of (l .composition)) n page (l .j) (l .found .place) (l .found .row)
-        → (q : ℕ) → q < l .p → getD (l .out) (l .from + q) 0 ≡ picture (shape-of (l .composition)) n page (l .cursor) (l .blink) (suc (l .j)) (l .line) q)
+    → (q : ℕ) → q < l .p → getD (l .out) (l .from + q) 0 ≡ picture (shape-of (l .composition)) n page (l .cursor) (l .blink) (suc (l .j)) (l .line) q)
     × ((i : ℕ) → (i < l .from) ⊎ (l .from + l .p ≤ i) → getD (l .out) i 0 ≡ getD (l .entry .out) i 0)

@@ -17,7 +17,8 @@ loop-line-again c =
     let a = c .args in
     let l = c .loop-line in
     let w : ℕ = width (shape-of (a .composition .now)) in
-    let e = c .write-line .ensures in
-    (e .size ∙ l .inv .0,
-     λ n page f. line-more (l .out) (c .write-line .last .out) w (l .line) (λ (k p : ℕ). picture (shape-of (a .composition .now)) n page (a .cursor) (a .blink) (suc (a .j)) k p) (l .inv .1 n page f) (e .words n page f) (e .rest),
-     λ i h. e .rest i (inr (let q = line-fits (l .line) (a .composition .now .lines) w i (c .loop-line-test .taken) h in q)) ∙ l .inv .2 i h)
+    let e = c .write-line .ensures in (
+      e .size ∙ l .inv .0,
+      λ n page f. line-more (l .out) (c .write-line .last .out) w (l .line) (λ (k p : ℕ). picture (shape-of (a .composition .now)) n page (a .cursor) (a .blink) (suc (a .j)) k p) (l .inv .1 n page f) (e .words n page f) (e .rest),
+      λ i h. e .rest i (inr (let q = line-fits (l .line) (a .composition .now .lines) w i (c .loop-line-test .taken) h in q)) ∙ l .inv .2 i h,
+    )

@@ -19,14 +19,14 @@ returns g c =
     let m : Meaning = g .S·Source .means (c .args .source .now) in
     let e : s .shape ≡ Some (shape-of (c .in-Some .composition)) = ap shape-in (c .in-Some .is) in
     let x = clocks (shape-of (c .in-Some .composition)) (state-of (c .args .self .now)) (state-of (c .prepare .last .self)) (state-of (c .store .last .self))
-        (g .S·Source .means (c .args .source .now)) (g .S·Source .means (c .prepare .last .source)) (g .S·Source .means (c .clock-came .last .self))
-        (core-of (c .advance .last .self)) (c .wants .result) (c .clock-came .result) (c .word-word .result)
-        (c .prepare .ensures .state) (c .prepare .ensures .source) (c .word-word .ensures) (c .wants .ensures) (c .clock-came .ensures .byte)
-        (c .clock-came .ensures .after) (c .store .ensures .state) (c .advance .ensures .core) in
+    (g .S·Source .means (c .args .source .now)) (g .S·Source .means (c .prepare .last .source)) (g .S·Source .means (c .clock-came .last .self))
+    (core-of (c .advance .last .self)) (c .wants .result) (c .clock-came .result) (c .word-word .result)
+    (c .prepare .ensures .state) (c .prepare .ensures .source) (c .word-word .ensures) (c .wants .ensures) (c .clock-came .ensures .byte)
+    (c .clock-came .ensures .after) (c .store .ensures .state) (c .advance .ensures .core) in
     record {
-        answer = ap Ok (x .word) ∙ sym (ap (λ (o : Option Shape). clock-answer o s) e);
-        state = x .state ∙ sym (ap (λ (o : Option Shape). clocked-by o s m) e);
-        source = x .source ∙ sym (ap (λ (o : Option Shape). source-by o s m) e)
+      answer = ap Ok (x .word) ∙ sym (ap (λ (o : Option Shape). clock-answer o s) e);
+      state = x .state ∙ sym (ap (λ (o : Option Shape). clocked-by o s m) e);
+      source = x .source ∙ sym (ap (λ (o : Option Shape). source-by o s m) e);
     }
 
 pub store-requires : need.store-requires

@@ -22,10 +22,11 @@ outstanding PenRow a b c = absurd (c refl)
 pub returns : need.returns
 returns c =
     let missed : c .match-this .missed ≡ awaits-write (c .args .self .now .pending) =
-        elim (c .match-this .came) [
-          in-Nothing-rest w ↦ w .missed-is ∙ (search needs)
-        | in-rest-2 w ↦ w .missed-is ∙ outstanding (c .args .self .now .pending) (w .in-rest-2 .not-Nothing-0) (w .in-rest-2 .not-PenColumn-0) (w .in-rest-2 .not-PenRow-0) ] in
+    elim (c .match-this .came) [
+      | in-Nothing-rest w ↦ w .missed-is ∙ (search needs)
+      | in-rest-2 w ↦ w .missed-is ∙ outstanding (c .args .self .now .pending) (w .in-rest-2 .not-Nothing-0) (w .in-rest-2 .not-PenColumn-0) (w .in-rest-2 .not-PenRow-0)
+    ] in
     record {
-        answer = rw (← c .if-not-is-command .ensures tt) refl;
-        state = rw (← c .if-not-is-command .ensures tt) (c .obey .ensures ∙ (rw missed refl))
+      answer = rw (← c .if-not-is-command .ensures tt) refl;
+      state = rw (← c .if-not-is-command .ensures tt) (c .obey .ensures ∙ (rw missed refl));
     }

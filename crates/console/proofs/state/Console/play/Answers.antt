@@ -19,12 +19,13 @@ loop-call-holds g c =
 pub loop-call-again : need.loop-call-again
 loop-call-again g c =
     let means = g .S·Source .means in
-    let l = c .loop-call in
-    (on-more (drop (l .call-index) (c .args .calls .now)) _ (drop _ (c .args .calls .now)) (state-of (l .self)) (state-of (c .call-answer .last .self)) (means (l .source)) (means (c .call-answer .last .source))
-        (vec-items (l .answers)) (vec-items (c .push-reserved .last .self)) _ _ _ _
-        (l .inv .0) (next-call (c .args .calls .now) (l .call-index) _ (c .loop-call-test .taken)) (c .call-answer .ensures .state) (c .call-answer .ensures .source)
-        (c .push-reserved .ensures .items ∙ ap (λ (a : Answer). vec-items (l .answers) ++ (a ∷ [])) (c .call-answer .ensures .answer)),
-     (let i = l .inv .1 in let n = c .push-reserved .ensures .len in let k = c .push-reserved .ensures .capacity in omega arith))
+    let l = c .loop-call in (
+      on-more (drop (l .call-index) (c .args .calls .now)) _ (drop _ (c .args .calls .now)) (state-of (l .self)) (state-of (c .call-answer .last .self)) (means (l .source)) (means (c .call-answer .last .source))
+          (vec-items (l .answers)) (vec-items (c .push-reserved .last .self)) _ _ _ _
+          (l .inv .0) (next-call (c .args .calls .now) (l .call-index) _ (c .loop-call-test .taken)) (c .call-answer .ensures .state) (c .call-answer .ensures .source)
+          (c .push-reserved .ensures .items ∙ ap (λ (a : Answer). vec-items (l .answers) ++ (a ∷ [])) (c .call-answer .ensures .answer)),
+      (let i = l .inv .1 in let n = c .push-reserved .ensures .len in let k = c .push-reserved .ensures .capacity in omega arith),
+    )
 
 pub returns : need.returns
 returns g c =
@@ -33,9 +34,9 @@ returns g c =
     let m = means (c .args .source .now) in
     let same : vec-items (c .reserve .last .self) ≡ vec-items (c .args .answers .now) = c .reserve .ensures .items in
     let p : Played s m (c .args .calls .now) (vec-items (c .args .answers .now)) (state-of (c .loop-call .self)) (means (c .loop-call .source)) (vec-items (c .loop-call .answers)) =
-        subst (λ (out : List Answer). Played s m (c .args .calls .now) out (state-of (c .loop-call .self)) (means (c .loop-call .source)) (vec-items (c .loop-call .answers))) same
-        (on-end _ (state-of (c .loop-call .self)) (means (c .loop-call .source)) (vec-items (c .loop-call .answers)) (c .args .calls .now) s m (vec-items (c .reserve .last .self))
-        (no-call (c .args .calls .now) (c .loop-call .call-index) (c .loop-call-test .left)) (c .loop-call .inv .0)) in
+    subst (λ (out : List Answer). Played s m (c .args .calls .now) out (state-of (c .loop-call .self)) (means (c .loop-call .source)) (vec-items (c .loop-call .answers))) same
+    (on-end _ (state-of (c .loop-call .self)) (means (c .loop-call .source)) (vec-items (c .loop-call .answers)) (c .args .calls .now) s m (vec-items (c .reserve .last .self))
+    (no-call (c .args .calls .now) (c .loop-call .call-index) (c .loop-call-test .left)) (c .loop-call .inv .0)) in
     record { played = p; law = lawful s m (c .args .calls .now) (vec-items (c .args .answers .now)) (state-of (c .loop-call .self)) (means (c .loop-call .source)) (vec-items (c .loop-call .answers)) p; harmless = harmless }
 
 pub returns-in-Break-reserve : need.returns-in-Break-reserve

@@ -10,5 +10,5 @@ abbrev pub Inv-loop-call : given.InvT-loop-call
 Inv-loop-call g l =
     let means = g .S·Source .means in
     On (drop (l .call-index) (l .calls)) (state-of (l .self)) (means (l .source)) (vec-items (l .answers))
-        (l .calls) (state-of (l .entry .self)) (means (l .entry .source)) (vec-items (l .entry .answers))
+    (l .calls) (state-of (l .entry .self)) (means (l .entry .source)) (vec-items (l .entry .answers))
     × (vec-len (l .answers) + (length (l .calls) - l .call-index) ≤ vec-cap (l .answers))

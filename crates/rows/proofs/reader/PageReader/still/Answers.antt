@@ -22,8 +22,8 @@ returns-in-Some c =
     let j : ℕ = c .args .row in
     let n : ℕ = burst-bytes (s .burst) in
     let f : Located (shape-of (s .composition)) n (s .page .now) (j - 1) (Some x) =
-        subst (λ (m : ℕ). Located (shape-of (s .composition)) m (s .page .now) (j - 1) (Some x)) (c .bytes .ensures .is) (c .in-Some .ensures tt) in
+    subst (λ (m : ℕ). Located (shape-of (s .composition)) m (s .page .now) (j - 1) (Some x)) (c .bytes .ensures .is) (c .in-Some .ensures tt) in
     let large : ltb (length (c .args .out .now)) (s .composition .lines * width (shape-of (s .composition))) ≡ false = let h = c .if-out-self .left in grind (arith, tells) in
     stilled (shape-of (s .composition)) n (s .page .now) (c .args .cursor) (c .args .blink) j (c .args .out .now) (c .write-lines .last .out) (c .in-Continue-check .ensures tt .there .0)
-        (c .in-Continue-check .ensures tt .refused (cond (ltb (length (c .args .out .now)) (s .composition .lines * width (shape-of (s .composition)))) (Some BufferTooSmall) (ends-refusal (shape-of (s .composition)) n (s .page .now) j)) ∙ (rw large refl))
-        (f .0) (c .write-lines .ensures .size) (c .write-lines .ensures .words n (s .page .now) (f .1)) (c .write-lines .ensures .rest)
+    (c .in-Continue-check .ensures tt .refused (cond (ltb (length (c .args .out .now)) (s .composition .lines * width (shape-of (s .composition)))) (Some BufferTooSmall) (ends-refusal (shape-of (s .composition)) n (s .page .now) j)) ∙ (rw large refl))
+    (f .0) (c .write-lines .ensures .size) (c .write-lines .ensures .words n (s .page .now) (f .1)) (c .write-lines .ensures .rest)

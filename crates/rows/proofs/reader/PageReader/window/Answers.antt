@@ -18,8 +18,8 @@ returns-in-Some c =
     let x = c .in-Some .found in
     let j : ℕ = c .args .row in
     let f : Located (shape-of (s .composition)) (burst-bytes (s .burst)) (s .page .now) (j - 1) (Some x) =
-        subst (λ (n : ℕ). Located (shape-of (s .composition)) n (s .page .now) (j - 1) (Some x)) (c .bytes .ensures .is) (c .in-Some .ensures tt) in
+    subst (λ (n : ℕ). Located (shape-of (s .composition)) n (s .page .now) (j - 1) (Some x)) (c .bytes .ensures .is) (c .in-Some .ensures tt) in
     let d : x .place + x .row .take .taken - x .place ≡ x .row .take .taken = omega arith in
     subst (λ (m : ℕ). Windowed (shape-of (s .composition)) (burst-bytes (s .burst)) (s .page .now) j (x .place) (take m (drop (x .place) (s .page .now)))) (sym d)
-        (windowed (shape-of (s .composition)) (burst-bytes (s .burst)) (s .page .now) j (x .place) (x .row) (c .in-Continue-check .ensures tt .there .0)
-            (c .in-Continue-check .ensures tt .refused (ends-refusal (shape-of (s .composition)) (burst-bytes (s .burst)) (s .page .now) j)) (f .0) (f .1))
+    (windowed (shape-of (s .composition)) (burst-bytes (s .burst)) (s .page .now) j (x .place) (x .row) (c .in-Continue-check .ensures tt .there .0)
+    (c .in-Continue-check .ensures tt .refused (ends-refusal (shape-of (s .composition)) (burst-bytes (s .burst)) (s .page .now) j)) (f .0) (f .1))

@@ -12,7 +12,8 @@ pub returns : need.returns
 returns c =
     let s = c .args .self .now in
     let is : resolved (s .ring) (c .if-p-self .column) ≡ cell-of (s .ring) (take (s .len) (s .columns)) (c .args .p) =
-        elim (c .if-p-self .came) [
-          then-p-self w ↦ ap (resolved (s .ring)) (w .column-is) ∙ inside (s .ring) (s .columns) (s .len) (c .args .p) _ (w .if-p-self .taken) (omega arith)
-        | else-p-self w ↦ ap (resolved (s .ring)) (w .column-is) ∙ behind (s .ring) (s .columns) (s .len) (c .args .p) (w .if-p-self .left) ] in
+    elim (c .if-p-self .came) [
+      | then-p-self w ↦ ap (resolved (s .ring)) (w .column-is) ∙ inside (s .ring) (s .columns) (s .len) (c .args .p) _ (w .if-p-self .taken) (omega arith)
+      | else-p-self w ↦ ap (resolved (s .ring)) (w .column-is) ∙ behind (s .ring) (s .columns) (s .len) (c .args .p) (w .if-p-self .left)
+    ] in
     c .resolved .ensures ∙ is ∙ (rw (c .if-self .left) refl)

@@ -13,10 +13,10 @@ returns-in-Pair c =
     let e = c .in-Pair .is in
     let one : s .pairs + 1 ≡ suc (s .pairs) = omega arith in
     record {
-        state = put-joined (s .columns) (s .len) (s .ring) (s .pairs) (s .field) (s .ended) (s .below) (c .args .p) _ _ _ _ _ _ (s .hidden)
-            (omega arith) (c .column .ensures) (sym (ap (stored (s .ring) (s .pairs)) e)) (one ∙ sym (ap (counted (s .pairs)) e))
-            (c .in-force-self .ensures) (c .ends .ensures) (c .ends-screen .ensures);
-        len = refl
+      state = put-joined (s .columns) (s .len) (s .ring) (s .pairs) (s .field) (s .ended) (s .below) (c .args .p) _ _ _ _ _ _ (s .hidden)
+          (omega arith) (c .column .ensures) (sym (ap (stored (s .ring) (s .pairs)) e)) (one ∙ sym (ap (counted (s .pairs)) e))
+          (c .in-force-self .ensures) (c .ends .ensures) (c .ends-screen .ensures);
+      len = refl;
     }
 
 pub returns-in-rest : need.returns-in-rest
@@ -24,7 +24,7 @@ returns-in-rest c =
     let s = c .args .self .now in
     let same = stored-rest (s .ring) (s .pairs) (c .args .p) (c .in-rest .not-Pair) in
     record {
-        state = put-joined (s .columns) (s .len) (s .ring) (s .pairs) (s .field) (s .ended) (s .below) (c .args .p) _ _ _ _ _ _ (s .hidden)
-            (omega arith) (c .column .ensures) (same .0) (same .1) (c .in-force-self .ensures) (c .ends .ensures) (c .ends-screen .ensures);
-        len = refl
+      state = put-joined (s .columns) (s .len) (s .ring) (s .pairs) (s .field) (s .ended) (s .below) (c .args .p) _ _ _ _ _ _ (s .hidden)
+          (omega arith) (c .column .ensures) (same .0) (same .1) (c .in-force-self .ensures) (c .ends .ensures) (c .ends-screen .ensures);
+      len = refl;
     }

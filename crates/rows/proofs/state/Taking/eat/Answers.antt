@@ -53,15 +53,17 @@ pub returns-in-None : need.returns-in-None
 returns-in-None c =
     let s = c .args .self .now in
     record {
-        state = took-joined (c .args .opaque) (c .args .n) (taken-of s) (c .args .b) _ [] _ _ (c .next-phase-phase .ensures) (c .in-None .ensures tt) (omega arith) (sym (or-false (s .over)));
-        fills = c .filled-came .ensures; room = omega (arith, ap (λ (o : Option Position). length (listed o)) (c .in-None .is))
+      state = took-joined (c .args .opaque) (c .args .n) (taken-of s) (c .args .b) _ [] _ _ (c .next-phase-phase .ensures) (c .in-None .ensures tt) (omega arith) (sym (or-false (s .over)));
+      fills = c .filled-came .ensures;
+      room = omega (arith, ap (λ (o : Option Position). length (listed o)) (c .in-None .is));
     }
 
 pub returns-in-Some : need.returns-in-Some
 returns-in-Some c =
     let s = c .args .self .now in
     record {
-        state = took-joined (c .args .opaque) (c .args .n) (taken-of s) (c .args .b) _ (c .in-Some .p ∷ []) _ _ (c .next-phase-phase .ensures) (c .in-Some .ensures tt) refl
-            (ap (λ (x : Bool). s .over || x) (c .stops-all .ensures ∙ sym (or-false (stops-all (c .in-Some .p)))));
-        fills = c .in-Some .ensures tt; room = let o = open-row s (c .pre .1) in let q = o .1 in omega arith
+      state = took-joined (c .args .opaque) (c .args .n) (taken-of s) (c .args .b) _ (c .in-Some .p ∷ []) _ _ (c .next-phase-phase .ensures) (c .in-Some .ensures tt) refl
+          (ap (λ (x : Bool). s .over || x) (c .stops-all .ensures ∙ sym (or-false (stops-all (c .in-Some .p)))));
+      fills = c .in-Some .ensures tt;
+      room = let o = open-row s (c .pre .1) in let q = o .1 in omega arith;
     }

@@ -1,0 +1,4 @@
+pub mod Hex
+pub mod Figures
+pub mod Words
+pub mod Drafts

@@ -1,0 +1,4 @@
+pub mod Looks
+pub mod Words
+pub mod Summary
+pub mod Firmware
