@@ -16,52 +16,7 @@ use Rattle.source.specs.Meaning.{Meaning, answer, clocked}
 use Rattle.frame.specs.Ports.{Bursts, Core, State}
 use Rattle.frame.specs.Timing.{pause}
 use Rattle.frame.specs.Machine.{frame-start, row-start, opening, idle, underrun, prepared, begins, wants, word, fed, Turn, in-line, new-line, new-row, new-frame, turn, moved, ready-core, ready-source, fed-core, next-core, next-flags, clock-state, clock-source, clock-word}
-use Rattle.console.specs.Steps.{with, interrupted, frame-opened, row-opened, readied, stored}
-
-pub framed : (c : Shape) (ve : Bool) (b b₂ : Bursts) (k : Core) (f : Buffer) (i : Bool) (s : Shown)
-    → f ≡ fresh (c .h) i false s → i ≡ idle c 1 → s ≡ nothing → b₂ ≡ cond ve b (k .bursts)
-    → _≡_ {A = Core}
-    (record { row = k .row; line = k .line; column = k .column; blink = k .blink; armed = ve; dark = false; bursts = b₂; gap = 0; fill = f; shown = k .shown })
-    (prepared c ve b frame-start k)
-unfolding prepared
-framed c ve b b₂ k f i s e p q r = rw (e, p, q, r) refl
-
-pub rowed : (c : Shape) (ve : Bool) (b : Bursts) (k : Core) (f : Buffer) (i late : Bool)
-    → f ≡ fresh (c .h) i (k .fill .take .over) (k .fill .show) → i ≡ idle c (k .row + 1) → late ≡ underrun k
-    → _≡_ {A = Core}
-    (record {
-      row = k .row;
-      line = k .line;
-      column = k .column;
-      blink = k .blink;
-      armed = k .armed;
-      dark = k .dark || late;
-      bursts = k .bursts;
-      gap = 0;
-      fill = f;
-      shown = k .fill .show;
-    })
-    (prepared c ve b row-start k)
-unfolding prepared
-rowed c ve b k f i late e p q = let z : idle c (k .row + 1) ≡ idle c (suc (k .row)) = rw add-one refl in rw (e, p, z, q) refl
-
-pub fed-none : (c : Shape) (k : Core) (came : Option ℕ) (gap : ℕ) → came ≡ None → gap ≡ k .gap - 1
-    → _≡_ {A = Core}
-    (record {
-      row = k .row;
-      line = k .line;
-      column = k .column;
-      blink = k .blink;
-      armed = k .armed;
-      dark = k .dark;
-      bursts = k .bursts;
-      gap = gap;
-      fill = k .fill;
-      shown = k .shown;
-    })
-    (fed c k came)
-unfolding fed
-fed-none c k came gap e g = rw (e, g) refl
+use Rattle.console.specs.Steps.{with, du-if, interrupted, frame-opened, row-opened, readied, stored}
 
 taken-eat : (f : Bool) (n : ℕ) (x : Buffer) (a : ℕ) → eat f n x a .take .taken ≡ suc (x .take .taken)
 unfolding eat took
@@ -88,7 +43,6 @@ pub fed-some : (c : Shape) (k : Core) (came : Option ℕ) (x gap : ℕ) (f : Buf
       shown = k .shown;
     })
     (fed c k came)
-unfolding fed
 fed-some c k came x gap f h e p q =
     let nf = not-full (full (k .fill .take)) came x h e in
     let p₂ : f ≡ eat (c .f) (k .bursts .n) (k .fill) x = p ∙ (rw nf refl) in
@@ -96,93 +50,14 @@ fed-some c k came x gap f h e p q =
     q ∙ ap (λ (y : Buffer). pause (k .bursts) (y .take .taken)) p₂ ∙ ap (pause (k .bursts)) (taken-eat (c .f) (k .bursts .n) (k .fill) x) in
     rw (e, p₂, q₂) refl
 
--- where the counters go
-pub goes-in-line : (c : Shape) (k : Core) → k .column + 1 < c .h + c .z
-    → _≡_ {A = Core}
-    (record {
-      row = k .row;
-      line = k .line;
-      column = k .column + 1;
-      blink = k .blink;
-      armed = k .armed;
-      dark = k .dark;
-      bursts = k .bursts;
-      gap = k .gap;
-      fill = k .fill;
-      shown = k .shown;
-    })
-    (moved (turn c (k .row) (k .line) (k .column)) k)
-unfolding moved
-goes-in-line c k a = let t : ltb (suc (k .column)) (width c) ≡ true = grind (arith, tells) in rw (t, add-one) refl
-
-pub goes-new-line : (c : Shape) (k : Core) → c .h + c .z ≤ k .column + 1 → k .line + 1 < c .l
-    → _≡_ {A = Core}
-    (record {
-      row = k .row;
-      line = k .line + 1;
-      column = 0;
-      blink = k .blink;
-      armed = k .armed;
-      dark = k .dark;
-      bursts = k .bursts;
-      gap = k .gap;
-      fill = k .fill;
-      shown = k .shown;
-    })
-    (moved (turn c (k .row) (k .line) (k .column)) k)
-unfolding moved
-goes-new-line c k a b =
-    let t : ltb (suc (k .column)) (width c) ≡ false = grind (arith, tells) in
-    let u : ltb (suc (k .line)) (c .l) ≡ true = grind (arith, tells) in
-    rw (t, u, add-one) refl
-
-pub goes-new-row : (c : Shape) (k : Core) → c .h + c .z ≤ k .column + 1 → c .l ≤ k .line + 1 → k .row + 1 < c .r + c .v
-    → _≡_ {A = Core}
-    (record {
-      row = k .row + 1;
-      line = 0;
-      column = 0;
-      blink = k .blink;
-      armed = k .armed;
-      dark = k .dark;
-      bursts = k .bursts;
-      gap = k .gap;
-      fill = k .fill;
-      shown = k .shown;
-    })
-    (moved (turn c (k .row) (k .line) (k .column)) k)
-unfolding moved
-goes-new-row c k a b d =
-    let t : ltb (suc (k .column)) (width c) ≡ false = grind (arith, tells) in
-    let u : ltb (suc (k .line)) (c .l) ≡ false = grind (arith, tells) in
-    let v : ltb (suc (k .row)) (c .r + c .v) ≡ true = grind (arith, tells) in
-    rw (t, u, v, add-one) refl
-
-pub goes-new-frame : (c : Shape) (k : Core) → c .h + c .z ≤ k .column + 1 → c .l ≤ k .line + 1 → c .r + c .v ≤ k .row + 1
-    → _≡_ {A = Core}
-    (record {
-      row = 0;
-      line = 0;
-      column = 0;
-      blink = (k .blink + 1) % 32;
-      armed = k .armed;
-      dark = k .dark;
-      bursts = k .bursts;
-      gap = k .gap;
-      fill = k .fill;
-      shown = k .shown;
-    })
-    (moved (turn c (k .row) (k .line) (k .column)) k)
-unfolding moved
-goes-new-frame c k a b d =
-    let t : ltb (suc (k .column)) (width c) ≡ false = grind (arith, tells) in
-    let u : ltb (suc (k .line)) (c .l) ≡ false = grind (arith, tells) in
-    let v : ltb (suc (k .row)) (c .r + c .v) ≡ false = grind (arith, tells) in
-    rw (t, u, v, add-one) refl
-
 or-false : (a : Bool) → (a || false) ≡ a
 or-false true = refl
 or-false false = refl
+
+-- a row time begins, and the row is late or not
+pub row-joined : (c : Shape) (s : State) (k : Core) (late : Bool) → late ≡ underrun (s .core)
+    → k ≡ prepared c (s .control .ve) (s .control .bursts) row-start (s .core) → with s k (du-if late (s .flags)) ≡ row-opened c s
+row-joined c s k late e p = rw (e, p) refl
 
 -- what begins with a clock: a frame, a row time, or nothing
 pub frame-begins : (c : Shape) (s s₁ s₂ : State) (m m₂ : Meaning) → s₁ ≡ interrupted c s → (eqb (s₁ .core .line) 0 && eqb (s₁ .core .column) 0) ≡ true → s₁ .core .row ≡ 0
@@ -205,14 +80,13 @@ row-begins c s s₁ s₂ m e h z p =
 
 pub none-begins : (c : Shape) (s s₁ : State) (m : Meaning) → s₁ ≡ interrupted c s → (eqb (s₁ .core .line) 0 && eqb (s₁ .core .column) 0) ≡ false
     → (s₁ ≡ readied c s) × (m ≡ ready-source s m)
-unfolding ready-core ready-source prepared
+unfolding ready-core ready-source
 none-begins c s s₁ m e h =
     let h₂ : (eqb (s .core .line) 0 && eqb (s .core .column) 0) ≡ false = ap (λ (x : State). eqb (x .core .line) 0 && eqb (x .core .column) 0) (sym e) ∙ h in
     (e ∙ (rw (h₂, or-false) refl), rw h₂ refl)
 
 -- a byte comes only where one is wanted
 pub unwanted : (k : Core) (m : Meaning) (came : Option ℕ) (w : Bool) → w ≡ wants k → came ≡ answer m w → full (k .fill .take) ≡ true → came ≡ None
-unfolding wants
 unwanted k m came w e p h =
     let none : wants k ≡ false =
     ⊎-elim
@@ -235,7 +109,8 @@ unfolding clock-state next-core fed-core next-flags clock-source clock-word
 clocks c s s₁ s₂ m m₁ m₂ k₃ wanted came w e₁ f₁ ew en ec f₂ e₂ e₃ =
     let n : wanted ≡ wants (ready-core c s) = en ∙ ap (λ (x : State). wants (x .core)) e₁ in
     let y : came ≡ answer (ready-source s m) (wants (ready-core c s)) = ec ∙ (rw (f₁, n) refl) in
-    let s₂-is : s₂ ≡ stored c (readied c s) (answer (ready-source s m) (wants (ready-core c s))) = e₂ ∙ (rw (e₁, y) refl) in
+    let s₂-is : s₂ ≡ stored c (readied c s) (answer (ready-source s m) (wants (ready-core c s))) =
+    e₂ ∙ ap (λ (x : State). stored c x came) e₁ ∙ ap (stored c (readied c s)) y in
     let whole : with s₂ k₃ (s₂ .flags) ≡ with s₂ (moved (turn c (s₂ .core .row) (s₂ .core .line) (s₂ .core .column)) (s₂ .core)) (s₂ .flags) = rw e₃ refl in
     record {
       state = whole ∙ ap (λ (x : State). with x (moved (turn c (x .core .row) (x .core .line) (x .core .column)) (x .core)) (x .flags)) s₂-is;

@@ -66,7 +66,6 @@ pub step :
     → Filling c b page free i t (k .gap) (k .fill) rest
     → (not (full (k .fill .take)) && eqb (k .gap) 0) ≡ w → free t ≡ f → t < total c → k .bursts ≡ b
     → Filling c b page free i (suc t) (fed c k (handed w f rest) .gap) (fed c k (handed w f rest) .fill) (left w f rest)
-unfolding fed
 step c b page free i t k false f rest h e fr lt eb =
     wait c b page free i t (k .gap) (k .fill) rest h
     (λ some nf. ap (first-free free (total c)) (grind (arith, tells)))

@@ -83,15 +83,12 @@ opening-new-row row = let a : eqb (suc row) 0 ≡ false = grind (arith, tells) i
 
 -- the request line
 wants-is : (k : Core) → k .armed ≡ true → k .dark ≡ false → (not (full (k .fill .take)) && eqb (k .gap) 0) ≡ wants k
-unfolding wants
 wants-is k a d = rw (a, d) refl
 
 wants-dark : (k : Core) → k .dark ≡ true → wants k ≡ false
-unfolding wants
 wants-dark k d = ⊎-elim (λ (a : k .armed ≡ true). rw (a, d) refl) (λ (a : k .armed ≡ false). rw a refl) (cases-bool (k .armed))
 
 wants-full : (k : Core) → full (k .fill .take) ≡ true → wants k ≡ false
-unfolding wants
 wants-full k h =
     ⊎-elim
     (λ (a : k .armed ≡ true). ⊎-elim (λ (d : k .dark ≡ true). rw (a, d) refl) (λ (d : k .dark ≡ false). rw (a, d, h) refl) (cases-bool (k .dark)))
@@ -135,7 +132,6 @@ fills c b page free blink t k rest g lt d l =
     step c b page free (k .row) t k (wants k) (free t) rest (g .filling d l) (wants-is k (g .armed) d) refl lt (g .bursts-is)
 
 stays-full : (c : Shape) (k : Core) (f : Bool) (rest : List ℕ) → full (k .fill .take) ≡ true → full (fed c k (handed (wants k) f rest) .fill .take) ≡ true
-unfolding fed
 stays-full c k f rest h = rw (wants-full k h) h
 
 in-time-is : (c : Shape) (b : Bursts) (page : List ℕ) (free : ℕ → Bool) (i : ℕ) → in-time c b page free (suc i) ≡ (in-time c b page free i && not (late c b page free (suc i)))
@@ -169,7 +165,6 @@ stepped c ve u k f rest turn =
 pub next :
     (c : Shape) (b : Bursts) (page : List ℕ) (free : ℕ → Bool) (blink t : ℕ) (ve : Bool) (u : Bursts) (k : Core) (rest : List ℕ) → Good c b page free blink t k rest → suc t < total c
     → Good c b page free blink (suc t) (stepped c ve u k (free t) rest (turn c (k .row) (k .line) (k .column))) (left (wants k) (free t) rest)
-unfolding moved fed prepared underrun
 next c b page free blink t ve u k rest g lt = go (turn c row line column) (turn-says c row line column)
   where
     row : ℕ
@@ -276,7 +271,7 @@ pub shows-row :
     (c : Shape) (b : Bursts) (page : List ℕ) (free : ℕ → Bool) (blink t : ℕ) (q : Option (ℕ × ℕ)) (k : Core) (rest : List ℕ) → Good c b page free blink t k rest
     → 1 ≤ k .row → k .row ≤ c .r → in-time c b page free (k .row) ≡ true
     → pictured c q k ≡ picture c (b .n) page q blink (k .row) (k .line) (k .column)
-unfolding pictured picture
+unfolding picture
 shows-row c b page free blink t q k rest g one le ok = go (k .row) refl
   where
     d : k .dark ≡ false
@@ -302,7 +297,7 @@ pub shows-dark :
     (c : Shape) (b : Bursts) (page : List ℕ) (free : ℕ → Bool) (blink t : ℕ) (q : Option (ℕ × ℕ)) (k : Core) (rest : List ℕ) → Good c b page free blink t k rest
     → k .row ≤ c .r → in-time c b page free (k .row) ≡ false
     → pictured c q k ≡ dark-word (line-count c (k .line)) (leb (c .h) (k .column)) false
-unfolding pictured in-time
+unfolding in-time
 shows-dark c b page free blink t q k rest g le no-more = go (k .row) refl
   where
     d : k .dark ≡ true
@@ -316,7 +311,6 @@ pub shows-retrace :
     (c : Shape) (b : Bursts) (page : List ℕ) (free : ℕ → Bool) (blink t : ℕ) (q : Option (ℕ × ℕ)) (k : Core) (rest : List ℕ) → Good c b page free blink t k rest
     → (eqb (k .row) 0 || ltb (c .r) (k .row)) ≡ true
     → pictured c q k ≡ dark-word (line-count c (k .line)) (leb (c .h) (k .column)) true
-unfolding pictured
 shows-retrace c b page free blink t q k rest g v =
     ⊎-elim
     (λ (d : k .dark ≡ true). rw (g .armed, d, v) refl)

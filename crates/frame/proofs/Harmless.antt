@@ -33,7 +33,6 @@ after-read-alike PenColumn s = record { shape = refl; cursor = refl; core = refl
 after-read-alike PenRow s = record { shape = refl; cursor = refl; core = refl; video = refl; bursts = refl }
 
 stroke-alike : (o : Option Shape) (s : State) → Alike s (stroke-by o s)
-unfolding stroke
 stroke-alike None s = same s
 stroke-alike (Some c) s = record { shape = refl; cursor = refl; core = refl; video = refl; bursts = refl }
 

@@ -98,7 +98,6 @@ gives-parameter PenColumn s h k e = (h, tt)
 gives-parameter PenRow s h k e = (h, tt)
 
 strikes : (o : Option Shape) (s : State) → Sound s → Sound (stroke-by o s)
-unfolding stroke
 strikes None s h = h
 strikes (Some c) s h = h
 

@@ -92,7 +92,6 @@ begins-not k ve m h =
 
 -- preparing a clock leaves its place
 stays : (c : Shape) (ve : Bool) (u : Bursts) (o : Opening) (k : Core) → (prepared c ve u o k .row ≡ k .row) × (prepared c ve u o k .line ≡ k .line) × (prepared c ve u o k .column ≡ k .column)
-unfolding prepared
 stays c ve u within k = (refl, refl, refl)
 stays c ve u frame-start k = (refl, refl, refl)
 stays c ve u row-start k = (refl, refl, refl)
@@ -120,7 +119,7 @@ pub record At (c : Shape) (b : Bursts) (q : Option (ℕ × ℕ)) (page : List �
 -- the frame's first clock
 pub begun-at :
     (c : Shape) (s : State) (page : List ℕ) (free : ℕ → Bool) → Proper c → Ready c s → At c (s .control .bursts) (s .cursor) page free (s .core .blink) 0 [] s
-unfolding ready-core prepared in-time
+unfolding ready-core in-time
 begun-at c s page free p r =
     let z = start-zero (s .core) (r .first) in
     let b : Bursts = s .control .bursts in
@@ -168,7 +167,6 @@ source-is c b q page free blink (suc t) rest s m a lt f =
 wraps :
     (c : Shape) (b : Bursts) (page : List ℕ) (free : ℕ → Bool) (blink t : ℕ) (k k₂ : Core) (rest : List ℕ) → Good c b page free blink t k rest → suc t ≡ total c
     → at-start (moved (turn c (k .row) (k .line) (k .column)) k₂) ≡ true
-unfolding moved
 wraps c b page free blink t k k₂ rest g e = go (turn c row line column) (turn-says c row line column)
   where
     row : ℕ
@@ -212,7 +210,7 @@ pub clock-on :
     (c : Shape) (b : Bursts) (q : Option (ℕ × ℕ)) (page : List ℕ) (free : ℕ → Bool) (blink t : ℕ) (rest : List ℕ) (s : State) (m : Meaning)
     → At c b q page free blink t rest s → t < total c → Found-at page free t rest m
     → At c b q page free blink (suc t) (clock-source c s m .rest) (clock-state c s m)
-unfolding clock-source clock-state next-core fed-core fed
+unfolding clock-source clock-state next-core fed-core
 clock-on c b q page free blink t rest s m a lt f =
     let k : Core = ready-core c s in
     let r : List ℕ = rest-at t page rest in
@@ -284,7 +282,6 @@ count-small c line p h =
     pick-small (c .offset) _ _ 16 (pick-small (eqb line 0) _ _ 16 (omega arith) (omega arith)) (omega arith)
 
 picture-small : (c : Shape) (q : Option (ℕ × ℕ)) (k : Core) → line-count c (k .line) < 16 → pictured c q k < 0x400000
-unfolding pictured
 picture-small c q k h = pick-small _ _ _ 0x400000 (cell-small c (k .line) (k .blink) _ _ h) (dark-small _ _ _ h)
 
 bits-are : (p : ℕ) (w irq : Bool) → p < 0x400000 → ((p + 0x400000 * bit w + 0x800000 * bit irq) % 0x400000 ≡ p) × ((p + 0x400000 * bit w + 0x800000 * bit irq) / 0x400000 % 2 ≡ bit w)
@@ -303,7 +300,7 @@ pub record Seen (c : Shape) (b : Bursts) (q : Option (ℕ × ℕ)) (page : List 
 seen-core :
     (c : Shape) (b : Bursts) (q : Option (ℕ × ℕ)) (page : List ℕ) (free : ℕ → Bool) (blink t : ℕ) (k : Core) (rest : List ℕ) (irq : Bool)
     → Proper c → Good c b page free blink t k rest → Seen c b q page free blink (k .row) (k .line) (k .column) t (word c q irq k)
-unfolding word picture-bits request-bit
+unfolding picture-bits request-bit
 seen-core c b q page free blink t k rest irq p g =
     let s = picture-small c q k (count-small c (k .line) p (g .line<)) in
     let e = bits-are (pictured c q k) (wants k) irq s in

@@ -28,12 +28,12 @@ abbrev pub idle : Shape → (row : ℕ) → Bool
 idle c j = ltb (c .r) j || blank c j
 
 -- a row whose time has come is late where its buffer is not full
-unfoldable pub underrun : Core → Bool
+abbrev pub underrun : Core → Bool
 underrun k = k .armed && (not (k .dark) && not (full (k .fill .take)))
 
 -- a frame is armed if video is enabled at its first clock, which takes the bursts over; at a row's first clock the row that was filled
 -- is shown, unless it is late, and the next one is begun
-unfoldable pub prepared : Shape → (ve : Bool) → Bursts → Opening → Core → Core
+abbrev pub prepared : Shape → (ve : Bool) → Bursts → Opening → Core → Core
 prepared c ve b within k = k
 prepared c ve b frame-start k =
     record {
@@ -69,7 +69,7 @@ begins frame-start ve m = cond ve (begun m) m
 begins row-start ve m = m
 
 -- DRQ: a byte is asked for
-unfoldable pub wants : Core → Bool
+abbrev pub wants : Core → Bool
 wants k = k .armed && (not (k .dark) && (not (full (k .fill .take)) && eqb (k .gap) 0))
 
 -- HRTC in a line's last Z clocks, VRTC in row time 0 and behind row time R
@@ -80,18 +80,18 @@ abbrev pub vrtc : Shape → Core → Bool
 vrtc c k = eqb (k .row) 0 || ltb (c .r) (k .row)
 
 -- the picture bits of a clock: dark in retrace, in a frame that is not armed and in one that went dark
-unfoldable pub pictured : Shape → Option (ℕ × ℕ) → Core → ℕ
+abbrev pub pictured : Shape → Option (ℕ × ℕ) → Core → ℕ
 pictured c q k =
     cond (k .armed && (not (k .dark) && (not (vrtc c k) && not (hrtc c k))))
     (cell-word c (k .line) (k .blink) (cursor-in q (k .row) (k .column)) (column-cell (k .shown) (k .column)))
     (dark-word (line-count c (k .line)) (hrtc c k) (vrtc c k))
 
 -- bit 22 is DRQ, bit 23 IRQ
-unfoldable pub word : Shape → Option (ℕ × ℕ) → (irq : Bool) → Core → ℕ
+abbrev pub word : Shape → Option (ℕ × ℕ) → (irq : Bool) → Core → ℕ
 word c q irq k = pictured c q k + 0x400000 * bit (wants k) + 0x800000 * bit irq
 
 -- what came is stored, and the burst space begins behind a burst's last byte
-unfoldable pub fed : Shape → Core → Option ℕ → Core
+abbrev pub fed : Shape → Core → Option ℕ → Core
 fed c k came =
     record {
       row = k .row;
@@ -119,7 +119,7 @@ turn c row line column =
     (cond (ltb (suc line) (c .l)) new-line (cond (ltb (suc row) (c .r + c .v)) new-row new-frame))
 
 -- the blink count rises behind each frame, from 31 to 0
-unfoldable pub moved : Turn → Core → Core
+abbrev pub moved : Turn → Core → Core
 moved in-line k =
     record {
       row = k .row;
@@ -234,7 +234,7 @@ abbrev pub pen-row : Shape → (row : ℕ) → ℕ
 pen-row c zero = c .r + c .v - 1
 pen-row c (suc j) = j
 
-unfoldable pub stroke : Shape → State → State
+abbrev pub stroke : Shape → State → State
 stroke c s =
     record {
       shape = s .shape;

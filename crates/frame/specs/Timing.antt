@@ -28,7 +28,7 @@ unfoldable pub first-free : (ℕ → Bool) → (end o : ℕ) → ℕ
 first-free free end o = seek free (end - o) o
 
 -- what passes behind byte number k of a row: the burst space where a burst ends
-unfoldable pub pause : Bursts → (k : ℕ) → ℕ
+abbrev pub pause : Bursts → (k : ℕ) → ℕ
 pause b k = cond (eqb (k % b .n) 0) (b .d) 0
 
 -- of a row whose row time begins at the clock `base`: from when on the byte behind k others is asked for

@@ -5,7 +5,7 @@ use Rattle.frame.specs.Timing.{line-clocks, span, total, seek, first-free, pau
 use Rattle.frame.proofs.law.worked_cases.Needs as need
 
 pub returns : need.returns
-unfolding taking-at row effects screen-over row-cell line-clocks span total seek first-free pause opens takes late
+unfolding taking-at row effects screen-over row-cell line-clocks span total seek first-free opens takes late
 returns c =
     record {
       widest = refl;
