@@ -1,7 +1,8 @@
 // Calls in a row over one source.
-ghost use Prim.Native.Nat.{ℕ};
+ghost use Prim.Native.Nat.{ℕ, _+_, _<_};
 ghost use mathlib.Core.Path.{_≡_};
-ghost use Rattle.std.specs.Of.Vec.{vec-items};
+ghost use mathlib.Core.List.{[], _∷_, _++_};
+ghost use Rattle.std.specs.Of.Vec.{vec-items, vec-len, vec-cap};
 ghost use Rattle.std.specs.Results.{Cases};
 ghost use Rattle.refusal.specs.declared.Refusal.the-variants.{OutOfMemory};
 ghost use Rattle.frame.specs.History.{call-state, call-source, call-answer};
@@ -44,6 +45,18 @@ impl Console {
         }
     }
 
+    // One call, whose answer there is room for.
+    fn record<S: Source>(&mut self, source: &mut S, call: Call, answers: &mut Vec<Answer>)
+        requires { ⌜ vec-len (now answers) < vec-cap (now answers) ⌝ }
+        ensures items { λ _. ⌜ vec-items (now (answers .exit)) ≡ vec-items (now (answers .entry)) ++ (call-answer call (state-of (now (self .entry))) ∷ []) ⌝ }
+        ensures room { λ _. ⌜ (vec-len (now (answers .exit)) ≡ vec-len (now (answers .entry)) + 1) × (vec-cap (now (answers .exit)) ≡ vec-cap (now (answers .entry))) ⌝ }
+        ensures state { λ _. ⌜ state-of (now (self .exit)) ≡ call-state call (state-of (now (self .entry))) (means (now (source .entry))) ⌝ }
+        ensures source { λ _. ⌜ means (now (source .exit)) ≡ call-source call (state-of (now (self .entry))) (means (now (source .entry))) ⌝ }
+    {
+        let answer = self.call(source, call);
+        answers.push_reserved(answer);
+    }
+
     // Plays calls over one source, and puts their answers behind those that are there. Room for all of them is made first, so that
     // want of memory alters nothing.
     pub fn play<S: Source>(
@@ -65,8 +78,7 @@ impl Console {
     {
         answers.reserve(calls.len())?;
         for call in calls {
-            let answer = self.call(source, *call);
-            answers.push_reserved(answer);
+            self.record(source, *call, answers);
         }
         Ok(())
     }

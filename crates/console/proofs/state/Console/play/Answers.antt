@@ -1,7 +1,7 @@
 -- Each turn plays one call more, and the law follows for them all.
 use borrow.Author.Needs.{needs}
-use mathlib.Core.Path.{_≡_, refl, ap, subst, _∙_}
-use mathlib.Core.List.{List, [], _∷_, _++_}
+use mathlib.Core.Path.{_≡_, refl, subst}
+use mathlib.Core.List.{List}
 use native.Mathlib.Omega.{arith}
 use lib.ListN.{drop}
 use Rattle.std.specs.Of.Vec.{vec-items}
@@ -20,11 +20,10 @@ pub loop-call-again : need.loop-call-again
 loop-call-again g c =
     let means = g .S·Source .means in
     let l = c .loop-call in (
-      on-more (drop (l .call-index) (c .args .calls .now)) _ (drop _ (c .args .calls .now)) (state-of (l .self)) (state-of (c .call-answer .last .self)) (means (l .source)) (means (c .call-answer .last .source))
-          (vec-items (l .answers)) (vec-items (c .push-reserved .last .self)) _ _ _ _
-          (l .inv .0) (next-call (c .args .calls .now) (l .call-index) _ (c .loop-call-test .taken)) (c .call-answer .ensures .state) (c .call-answer .ensures .source)
-          (c .push-reserved .ensures .items ∙ ap (λ (a : Answer). vec-items (l .answers) ++ (a ∷ [])) (c .call-answer .ensures .answer)),
-      (let i = l .inv .1 in let n = c .push-reserved .ensures .len in let k = c .push-reserved .ensures .capacity in omega arith),
+      on-more (drop (l .call-index) (c .args .calls .now)) _ (drop _ (c .args .calls .now)) (state-of (l .self)) (state-of (c .record .last .self)) (means (l .source)) (means (c .record .last .source))
+          (vec-items (l .answers)) (vec-items (c .record .last .answers)) _ _ _ _
+          (l .inv .0) (next-call (c .args .calls .now) (l .call-index) _ (c .loop-call-test .taken)) (c .record .ensures .state) (c .record .ensures .source) (c .record .ensures .items),
+      (let i = l .inv .1 in let n = c .record .ensures .room in omega arith),
     )
 
 pub returns : need.returns
