@@ -19,10 +19,10 @@ use Rattle.frame.specs.declared.call.Call.the-variants.{Command, Parameter, Sta
 use Rattle.frame.specs.declared.call.Answer.{Answer}
 use Rattle.frame.specs.declared.call.Answer.the-variants.{Done, Byte, Word, Refused}
 use Rattle.frame.specs.Ports.{State, new}
-use Rattle.frame.specs.Machine.{Opening, within, frame-start, row-start, opening, begins, ready-source, clock-state, clock-source}
-use Rattle.frame.specs.History.{Moment, clocked-by, source-by, word-by, done, stroke-answer, call-state, call-source, call-answer, after, answers, over, source-after, words}
-use Rattle.frame.specs.Law.{Ready, Alike, Quiet-call, Quiet, clock-count, Found-at, Found-by, rest-by, Found, clocks, Law, Frame-law}
+use Rattle.frame.specs.History.{Moment, word-by, done, stroke-answer, call-state, call-source, call-answer, after, answers, over, source-after, words}
+use Rattle.frame.specs.Law.{Ready, Quiet, Found, clocks, Law, Frame-law}
 use Rattle.frame.proofs.Lawful.{frame-law}
+use Rattle.frame.proofs.Threads.{found-over}
 use Rattle.console.specs.Answers.{answer, clock-answer, stroke-refusal}
 use Rattle.console.specs.Playing.{told, Played, Lawful}
 
@@ -103,75 +103,6 @@ drop-behind : (xs ys : List Answer) → drop (length xs) (xs ++ ys) ≡ ys
 drop-behind [] ys = refl
 drop-behind (x ∷ xs) ys = drop-behind xs ys
 
--- one source that nothing else alters is found at clock t as its first meaning foretold
-record Foretold (page : List ℕ) (free : ℕ → Bool) (t : ℕ) (rest : List ℕ) (m : Meaning) : Type 0 where
-  page-is : m .page ≡ page
-  free-is : (i : ℕ) → m .free i ≡ free (t + i)
-  rest-is : 0 < t → m .rest ≡ rest
-
-found-here : (page : List ℕ) (free : ℕ → Bool) (t : ℕ) (rest : List ℕ) (m : Meaning) → Foretold page free t rest m → Found-at page free t rest m
-found-here page free zero rest m f = (f .free-is 0 ∙ ap free (omega arith), f .page-is)
-found-here page free (suc t) rest m f = (f .free-is 0 ∙ ap free (omega arith), f .rest-is (omega arith))
-
-begun-page : (o : Opening) (ve : Bool) (m : Meaning) → (begins o ve m .page ≡ m .page) × ((i : ℕ) → begins o ve m .free i ≡ m .free i)
-begun-page within ve m = (refl, λ i. refl)
-begun-page frame-start true m = (refl, λ i. refl)
-begun-page frame-start false m = (refl, λ i. refl)
-begun-page row-start ve m = (refl, λ i. refl)
-
-foretold-on : (c : Shape) (page : List ℕ) (free : ℕ → Bool) (t : ℕ) (rest : List ℕ) (s : State) (m : Meaning) → Foretold page free t rest m
-    → Foretold page free (1 + t) (clock-source c s m .rest) (clock-source c s m)
-unfolding clock-source ready-source
-foretold-on c page free t rest s m f =
-    let b = begun-page (opening (s .core .row) (s .core .line) (s .core .column)) (s .control .ve) m in
-    record {
-      page-is = b .0 ∙ f .page-is;
-      free-is = λ i. b .1 (suc i) ∙ f .free-is (suc i) ∙ ap free (omega arith);
-      rest-is = λ _. refl;
-    }
-
-kept-shape : (c : Shape) (s : State) (m : Meaning) → clock-state c s m .shape ≡ s .shape
-unfolding clock-state
-kept-shape c s m = refl
-
-abbrev Threads : Shape → List ℕ → (ℕ → Bool) → List Call → Type 0
-Threads c page free cs =
-    (t : ℕ) (rest : List ℕ) (s : State) (m : Meaning) → s .shape ≡ Some c → Foretold page free t rest m → Quiet (over cs s m) s → Found page free t rest (over cs s m) s
-
--- a call between the clocks leaves the source
-thread-quiet : (c : Shape) (page : List ℕ) (free : ℕ → Bool) (cs : List Call) → Threads c page free cs
-    → (t : ℕ) (rest : List ℕ) (s s₂ : State) (m : Meaning) → s .shape ≡ Some c → Foretold page free t rest m → Alike s s₂ → Quiet (over cs s₂ m) s₂ → Found page free (0 + t) rest (over cs s₂ m) s₂
-thread-quiet c page free cs ih t rest s s₂ m e f a q =
-    let z : t ≡ 0 + t = omega arith in
-    subst (λ (n : ℕ). Found page free n rest (over cs s₂ m) s₂) z (ih t rest s₂ m (a .shape ∙ e) f q)
-
-thread-call : (c : Shape) (page : List ℕ) (free : ℕ → Bool) (x : Call) (cs : List Call) → Threads c page free cs
-    → (t : ℕ) (rest : List ℕ) (s : State) (m : Meaning) → s .shape ≡ Some c → Foretold page free t rest m
-    → Quiet-call x s (call-state x s m) → Quiet (over cs (call-state x s m) (call-source x s m)) (call-state x s m)
-    → Found-by x page free t rest m
-    × Found page free (clock-count x + t) (rest-by x rest (call-source x s m)) (over cs (call-state x s m) (call-source x s m)) (call-state x s m)
-unfolding call-source
-thread-call c page free (Command b) cs ih t rest s m e f a q = (tt, thread-quiet c page free cs ih t rest s _ m e f a q)
-thread-call c page free (Parameter b) cs ih t rest s m e f a q = (tt, thread-quiet c page free cs ih t rest s _ m e f a q)
-thread-call c page free Status cs ih t rest s m e f a q = (tt, thread-quiet c page free cs ih t rest s _ m e f a q)
-thread-call c page free Read cs ih t rest s m e f a q = (tt, thread-quiet c page free cs ih t rest s _ m e f a q)
-thread-call c page free Stroke cs ih t rest s m e f a q = (tt, thread-quiet c page free cs ih t rest s _ m e f a q)
-thread-call c page free Clock cs ih t rest s m e f a q =
-    let src : source-by (s .shape) s m ≡ clock-source c s m = ap (λ (o : Option Shape). source-by o s m) e in
-    let st : call-state Clock s m ≡ clock-state c s m = clock-is s m c e in
-    let shape₂ : call-state Clock s m .shape ≡ Some c = ap (λ (x : State). x .shape) st ∙ kept-shape c s m ∙ e in
-    let g : Foretold page free (1 + t) (source-by (s .shape) s m .rest) (source-by (s .shape) s m) =
-    subst (λ (m₂ : Meaning). Foretold page free (1 + t) (m₂ .rest) m₂) (sym src) (foretold-on c page free t rest s m f) in
-    (found-here page free t rest m f, ih (1 + t) (source-by (s .shape) s m .rest) (call-state Clock s m) (source-by (s .shape) s m) shape₂ g q)
-  where
-    clock-is : (s : State) (m : Meaning) (c : Shape) → s .shape ≡ Some c → call-state Clock s m ≡ clock-state c s m
-    clock-is s m c e = unfold call-state in ap (λ (o : Option Shape). clocked-by o s m) e
-
-thread : (c : Shape) (page : List ℕ) (free : ℕ → Bool) (cs : List Call) → Threads c page free cs
-unfolding over
-thread c page free [] t rest s m e f q = tt
-thread c page free (x ∷ cs) t rest s m e f q = thread-call c page free x cs (thread c page free cs) t rest s m e f (q .0) (q .1)
-
 -- histories one behind another
 after-append : (es xs : List Moment) (s : State) → after (es ++ xs) s ≡ after xs (after es s)
 unfolding after
@@ -192,7 +123,7 @@ lawful s m cs out e m₂ out₂ p =
           let q₂ : Quiet (over cs s m) (after h new) = subst (Quiet (over cs s m)) is q in
           let f : Found (m .page) (m .free) 0 [] (over cs s m) (after h new) =
           subst (Found (m .page) (m .free) 0 [] (over cs s m)) is
-          (thread c (m .page) (m .free) cs 0 [] s m (r .composed) (record { page-is = refl; free-is = λ i. ap (m .free) (omega arith); rest-is = λ lt. absurd (omega arith) }) q) in
+          (found-over c cs s m (r .composed) q) in
           let l = frame-law c h (over cs s m) (m .page) (m .free) r₂ q₂ f room in
           rw (p .state, tail) (subst (λ (x : State). Law c x (m .page) (m .free) (clocks (over cs s m)) (after (over cs s m) x) (words (answers (over cs s m) x))) (sym is) l);
       resumed = λ h es c page free is r q f room.

@@ -9,7 +9,7 @@ pub struct Raster {
     pub row: u8,
     pub line: u8,
     pub column: u8,
-    // frames so far, modulo 32
+    // the blink count
     pub blink: u8,
     // video was enabled at the frame's first clock
     pub armed: bool,

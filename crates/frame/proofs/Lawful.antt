@@ -136,7 +136,7 @@ walk c b q page free blink (e ∷ es) pr t rest s a h f room =
 
 -- a row that is in time over one bus is in time over one that is free wherever that is
 late-less :
-    (c : Shape) (b : Bursts) (page : List ℕ) (f g : ℕ → Bool) (i : ℕ) → ((t : ℕ) → f t ≡ true → g t ≡ true) → late c b page f (suc i) ≡ false → late c b page g (suc i) ≡ false
+    (c : Shape) (b : Bursts) (page : List ℕ) (f g : ℕ → Bool) (i : ℕ) → ((t : ℕ) → t < total c → f t ≡ true → g t ≡ true) → late c b page f (suc i) ≡ false → late c b page g (suc i) ≡ false
 unfolding late
 late-less c b page f g i more h =
     let p = or-parts _ _ h in
@@ -149,7 +149,7 @@ late-less c b page f g i more h =
         let y = takes-mono f g (total c) b (i * span c) more k in
         lt-leb _ _ (omega arith)
 
-in-time-more : (c : Shape) (b : Bursts) (page : List ℕ) (f g : ℕ → Bool) (j : ℕ) → ((t : ℕ) → f t ≡ true → g t ≡ true) → in-time c b page f j ≡ true → in-time c b page g j ≡ true
+in-time-more : (c : Shape) (b : Bursts) (page : List ℕ) (f g : ℕ → Bool) (j : ℕ) → ((t : ℕ) → t < total c → f t ≡ true → g t ≡ true) → in-time c b page f j ≡ true → in-time c b page g j ≡ true
 unfolding in-time
 in-time-more c b page f g zero more h = refl
 in-time-more c b page f g (suc i) more h =
@@ -181,7 +181,7 @@ seen-at c b q page free blink n e ws w j l p h =
 
 freer-law :
     (c : Shape) (s : State) (page : List ℕ) (free : ℕ → Bool) (n : ℕ) (e : State) (ws : List ℕ) → Proper c → Walked c (s .control .bursts) (s .cursor) page free (s .core .blink) 0 n e ws
-    → (s₂ : State) (es₂ : List Moment) (free₂ : ℕ → Bool) → Ready c s₂ → Equal s s₂ → ((t : ℕ) → free t ≡ true → free₂ t ≡ true)
+    → (s₂ : State) (es₂ : List Moment) (free₂ : ℕ → Bool) → Ready c s₂ → Equal s s₂ → ((t : ℕ) → t < (c .h + c .z) * c .l * (c .r + c .v) → free t ≡ true → free₂ t ≡ true)
     → Quiet es₂ s₂ → Found page free₂ 0 [] es₂ s₂ → clocks es₂ ≤ (c .h + c .z) * c .l * (c .r + c .v)
     → (j : ℕ) → j ≤ c .r → in-time c (s .control .bursts) page free j ≡ true
     → (in-time c (s₂ .control .bursts) page free₂ j ≡ true)
@@ -189,7 +189,7 @@ freer-law :
     → picture-bits (getD ws (place c j line p) 0) ≡ picture-bits (getD (words (answers es₂ s₂)) (place c j line p) 0))
 freer-law c s page free n e ws pr w s₂ es₂ free₂ r₂ eq more h₂ f₂ room j le ok =
     let b₂ : Bursts = s₂ .control .bursts in
-    let u = in-time-more c (s .control .bursts) page free free₂ j more ok in
+    let u = in-time-more c (s .control .bursts) page free free₂ j (λ t lt. more t (let z = total-product c in omega arith)) ok in
     let u₂ : in-time c b₂ page free₂ j ≡ true = rw (eq .bursts) u in
     let w₂ = walk c b₂ (s₂ .cursor) page free₂ (s₂ .core .blink) es₂ pr 0 [] s₂ (begun-at c s₂ page free₂ pr r₂) h₂ f₂ (let z = total-product c in omega arith) in (
       u₂,

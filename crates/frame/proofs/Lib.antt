@@ -6,3 +6,5 @@ pub mod Sound
 pub mod Walks
 pub mod Lawful
 pub mod Harmless
+pub mod Threads
+pub mod Examples

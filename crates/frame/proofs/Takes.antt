@@ -89,7 +89,7 @@ first-to free end o = seek-to free (end - o) o
 
 -- a search over a bus that is free wherever another is ends no later than that one
 pub first-mono :
-    (f g : ℕ → Bool) (end o p : ℕ) → ((t : ℕ) → f t ≡ true → g t ≡ true) → p ≤ o
+    (f g : ℕ → Bool) (end o p : ℕ) → ((t : ℕ) → t < end → f t ≡ true → g t ≡ true) → p ≤ o
     → first-free g end p ≤ first-free f end o
 first-mono f g end o p more h =
     let a = first-from f end o in
@@ -101,14 +101,14 @@ first-mono f g end o p more h =
     (both-ways
     (g (first-free f end o))
     (first-none g end p (first-free f end o) (omega arith) late)
-    (more (first-free f end o) (first-is-free f end o inside))))
+    (more (first-free f end o) inside (first-is-free f end o inside))))
     (λ out. let b = first-to g end p in omega arith)
     (cases-lt (first-free f end o) end))
     (λ ok. ok)
     (cases-lt (first-free f end o) (first-free g end p))
 
 pub takes-mono :
-    (f g : ℕ → Bool) (end : ℕ) (b : Bursts) (base : ℕ) → ((t : ℕ) → f t ≡ true → g t ≡ true) → (k : ℕ)
+    (f g : ℕ → Bool) (end : ℕ) (b : Bursts) (base : ℕ) → ((t : ℕ) → t < end → f t ≡ true → g t ≡ true) → (k : ℕ)
     → takes g end b base k ≤ takes f end b base k
 unfolding takes opens
 takes-mono f g end b base more zero = first-mono f g end base base more (omega arith)

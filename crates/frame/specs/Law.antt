@@ -15,7 +15,7 @@ use Rattle.rows.specs.Page.{picture}
 use Rattle.frame.specs.declared.call.Call.{Call}
 use Rattle.frame.specs.declared.call.Call.the-variants.{Command, Parameter, Status, Read, Stroke, Clock}
 use Rattle.frame.specs.Ports.{State, Core, new, command-refusal, parameter-refusal}
-use Rattle.frame.specs.Timing.{span, total, in-time, requested}
+use Rattle.frame.specs.Timing.{in-time, requested}
 use Rattle.frame.specs.History.{Moment, after, answers, words, call-state, call-source}
 
 -- the first clock of row time 0 comes next
@@ -103,15 +103,15 @@ place c j line p = j * ((c .h + c .z) * c .l) + line * (c .h + c .z) + p
 abbrev pub Played : Shape → (clocks j line p : ℕ) → Type 0
 Played c n j line p = (line < c .l) × (p < c .h + c .z) × (place c j line p < n)
 
--- two consoles for the same picture, each at the first clock of an armed frame
+-- two consoles that are to show the same picture of a page
 pub record Equal (s s₂ : State) : Type 0 where
   pub shape : s₂ .shape ≡ s .shape
   pub cursor : s₂ .cursor ≡ s .cursor
   pub blink : s₂ .core .blink ≡ s .core .blink
   pub bursts : s₂ .control .bursts ≡ s .control .bursts
 
--- The law, of the moments es from the first clock of an armed frame on, over the page and the bus that the frame's clocks found;
--- e is where they lead and ws are their words
+-- The law, of n clocks from the first clock of an armed frame of the console s on, over the page and the bus that these clocks found;
+-- e is where they and the calls between them lead, and ws are the clocks' words. It holds of each number of clocks up to a whole frame
 pub record Law (c : Shape) (s : State) (page : List ℕ) (free : ℕ → Bool) (n : ℕ) (e : State) (ws : List ℕ) : Type 0 where
   -- row time 0 begins again after exactly (H + Z) × L × (R + V) clocks, and not before
   pub lasts : n ≡ (c .h + c .z) * c .l * (c .r + c .v) → at-start (e .core) ≡ true
@@ -130,9 +130,9 @@ pub record Law (c : Shape) (s : State) (page : List ℕ) (free : ℕ → Bool) (
       → picture-bits (getD ws (place c j line p) 0) ≡ dark-word (line-count c line) (leb (c .h) p) true
   -- the request line is on from the opening of a byte until it is taken, and at no other clock
   pub asks : (j line p : ℕ) → Played c n j line p → request-bit (getD ws (place c j line p) 0) ≡ bit (requested c (s .control .bursts) page free j (place c j line p))
-  -- over a bus that is free wherever this one is, an equal console loses no row
+  -- over a bus that is free wherever this one is in the frame, an equal console loses no row
   pub freer :
-      (h₂ es₂ : List Moment) (free₂ : ℕ → Bool) → Ready c (after h₂ new) → Equal s (after h₂ new) → ((t : ℕ) → free t ≡ true → free₂ t ≡ true)
+      (h₂ es₂ : List Moment) (free₂ : ℕ → Bool) → Ready c (after h₂ new) → Equal s (after h₂ new) → ((t : ℕ) → t < (c .h + c .z) * c .l * (c .r + c .v) → free t ≡ true → free₂ t ≡ true)
       → Quiet es₂ (after h₂ new) → Found page free₂ 0 [] es₂ (after h₂ new) → clocks es₂ ≤ (c .h + c .z) * c .l * (c .r + c .v)
       → (j : ℕ) → j ≤ c .r → in-time c (s .control .bursts) page free j ≡ true
       → (in-time c (after h₂ new .control .bursts) page free₂ j ≡ true)

@@ -4,3 +4,4 @@ pub mod Machine
 pub mod History
 pub mod Law
 pub mod Worked
+pub mod Example

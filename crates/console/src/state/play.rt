@@ -1,12 +1,13 @@
 // Calls in a row over one source.
 ghost use Prim.Native.Nat.{ℕ, _+_, _<_};
 ghost use mathlib.Core.Path.{_≡_};
+ghost use lib.ListN.{length};
 ghost use mathlib.Core.List.{[], _∷_, _++_};
 ghost use Rattle.std.specs.Of.Vec.{vec-items, vec-len, vec-cap};
 ghost use Rattle.std.specs.Results.{Cases};
 ghost use Rattle.refusal.specs.declared.Refusal.the-variants.{OutOfMemory};
 ghost use Rattle.frame.specs.History.{call-state, call-source, call-answer};
-ghost use Rattle.frame.specs.Law.{Harmless};
+ghost use Rattle.frame.specs.Law.{Harmless, Frame-law};
 ghost use Rattle.console.specs.Model.{state-of};
 ghost use Rattle.console.specs.Playing.{told, Played, Lawful};
 use crate::state::Console;
@@ -75,6 +76,7 @@ impl Console {
             (state-of (now (self .exit))) (vec-items (now (answers .exit))))
             (λ _. Unit {0}) ⌝ }
         ensures harmless { λ _. ⌜ Harmless ⌝ }
+        ensures frames { λ _. ⌜ Frame-law ⌝ }
     {
         answers.reserve(calls.len())?;
         for call in calls {

@@ -7,6 +7,7 @@ use lib.ListN.{drop}
 use Rattle.std.specs.Of.Vec.{vec-items}
 use Rattle.frame.specs.declared.call.Answer.{Answer}
 use Rattle.frame.proofs.Harmless.{harmless}
+use Rattle.frame.proofs.Lawful.{frame-law}
 use Rattle.console.specs.Model.{state-of}
 use Rattle.console.specs.Playing.{Played}
 use Rattle.console.proofs.Plays.{On, on-more, on-end, next-call, no-call, lawful}
@@ -36,7 +37,7 @@ returns g c =
     subst (λ (out : List Answer). Played s m (c .args .calls .now) out (state-of (c .loop-call .self)) (means (c .loop-call .source)) (vec-items (c .loop-call .answers))) same
     (on-end _ (state-of (c .loop-call .self)) (means (c .loop-call .source)) (vec-items (c .loop-call .answers)) (c .args .calls .now) s m (vec-items (c .reserve .last .self))
     (no-call (c .args .calls .now) (c .loop-call .call-index) (c .loop-call-test .left)) (c .loop-call .inv .0)) in
-    record { played = p; law = lawful s m (c .args .calls .now) (vec-items (c .args .answers .now)) (state-of (c .loop-call .self)) (means (c .loop-call .source)) (vec-items (c .loop-call .answers)) p; harmless = harmless }
+    record { played = p; law = lawful s m (c .args .calls .now) (vec-items (c .args .answers .now)) (state-of (c .loop-call .self)) (means (c .loop-call .source)) (vec-items (c .loop-call .answers)) p; harmless = harmless; frames = frame-law }
 
 pub returns-in-Break-reserve : need.returns-in-Break-reserve
-returns-in-Break-reserve g c = record { played = search needs; law = search needs; harmless = harmless }
+returns-in-Break-reserve g c = record { played = search needs; law = search needs; harmless = harmless; frames = frame-law }
