@@ -1,1 +1,2 @@
-pub mod Others
+mod Numerals
+mod Others

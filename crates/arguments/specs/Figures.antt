@@ -1,5 +1,5 @@
 -- The figures among the arguments.
-use Prim.Native.Nat.{ℕ, _+_, _*_, _-_}
+use Prim.Native.Nat.{ℕ, _+_, _*_}
 use mathlib.Core.Bool.{Bool, cond, _&&_}
 use mathlib.Core.List.{List}
 use lib.Dec.{leb, eqb}
@@ -8,11 +8,7 @@ use Rattle.std.specs.declared.option.Option.{Option}
 use Rattle.std.specs.declared.option.Option.the-variants.{Some, None}
 use Rattle.arguments.specs.declared.figures.ResetParameters.{ResetParameters}
 use Rattle.arguments.specs.Hex.{byte-of}
-
--- f of the value that is there
-abbrev pub then : {A : Type 0} → Option ℕ → (ℕ → Option A) → Option A
-then None f = None
-then (Some v) f = f v
+use Rattle.arguments.specs.Numbers.{then, decimal, figure-of, pair-of}
 
 -- the byte of digits 2 k and 2 k + 1
 abbrev pub byte-at : List ℕ → (k : ℕ) → Option ℕ
@@ -30,9 +26,6 @@ parameters-of t =
 abbrev pub start-of : List ℕ → Option ℕ
 start-of t = cond (eqb (length t) 2) (then (byte-at t 0) (λ b. cond (leb 0x20 b && leb b 0x3F) (Some b) None)) None
 
-abbrev pub decimal : ℕ → Option ℕ
-decimal c = cond (leb 48 c && leb c 57) (Some (c - 48)) None
-
 -- three decimal digits that write 1 to 255
 abbrev pub decimal-of : (hundreds tens ones : ℕ) → Option ℕ
 decimal-of h t o =
@@ -45,3 +38,10 @@ row-of t =
     cond (eqb (length t) 1) (decimal-of 48 48 (getD t 0 0))
     (cond (eqb (length t) 2) (decimal-of 48 (getD t 0 0) (getD t 1 0))
     (cond (eqb (length t) 3) (decimal-of (getD t 0 0) (getD t 1 0) (getD t 2 0)) None))
+
+abbrev pub frames-of : List ℕ → Option ℕ
+frames-of t = then (figure-of 65535 t) (λ n. cond (eqb n 0) None (Some n))
+
+-- column and row, a comma between them
+abbrev pub cursor-of : List ℕ → Option (ℕ × ℕ)
+cursor-of t = pair-of 44 255 t

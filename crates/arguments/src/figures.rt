@@ -1,9 +1,11 @@
 // The figures among the arguments.
 ghost use Prim.Native.Nat.{ℕ, _+_, _*_, _<_, _≤_};
 ghost use mathlib.Core.Path.{_≡_};
-ghost use Rattle.std.specs.Slices.{found};
-ghost use Rattle.arguments.specs.Figures.{decimal, decimal-of, parameters-of, start-of, row-of};
+ghost use Rattle.arguments.specs.Figures.{decimal-of, parameters-of, start-of, row-of, frames-of, cursor-of};
 use crate::hex::byte;
+use crate::numbers::decimal;
+use crate::numbers::figure;
+use crate::numbers::pair;
 
 // The four parameters of Reset.
 #[derive(Clone, Copy, PartialEq, Eq, Debug)]
@@ -47,16 +49,6 @@ pub fn start(text: &[u8]) -> Option<u8>
     }
 }
 
-fn decimal(c: u8) -> Option<u16>
-    ensures value { λ r. ⌜ r ≡ decimal c ⌝ }
-    ensures small { λ r. ⌜ found r (λ v. v < 10) ⌝ }
-{
-    match c {
-        b'0'..=b'9' => Some((c - b'0') as u16),
-        _ => None,
-    }
-}
-
 // Three decimal digits that are a row number.
 fn row_digits(hundreds: u8, tens: u8, ones: u8) -> Option<u8>
     ensures { λ r. ⌜ r ≡ decimal-of hundreds tens ones ⌝ }
@@ -78,4 +70,23 @@ pub fn row(text: &[u8]) -> Option<u8>
         3 => row_digits(text[0], text[1], text[2]),
         _ => None,
     }
+}
+
+// A number of frames, 1 to 65535.
+pub fn frames(text: &[u8]) -> Option<u16>
+    ensures { λ r. ⌜ r ≡ frames-of (now (text .entry)) ⌝ }
+{
+    let number = figure(text, 65535)?;
+    if number == 0 {
+        return None;
+    }
+    Some(number as u16)
+}
+
+// Column and row of the cursor, 0 to 255, a comma between them.
+pub fn cursor(text: &[u8]) -> Option<(u8, u8)>
+    ensures { λ r. ⌜ r ≡ cursor-of (now (text .entry)) ⌝ }
+{
+    let (column, row) = pair(text, b',', 255)?;
+    Some((column as u8, row as u8))
 }

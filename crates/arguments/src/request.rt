@@ -3,9 +3,14 @@ ghost use Prim.Native.Nat.{ℕ};
 ghost use mathlib.Core.Path.{_≡_};
 ghost use Rattle.std.specs.Results.{Cases};
 ghost use Rattle.std.specs.declared.result.Result.the-variants.{Ok, Err};
-ghost use Rattle.arguments.specs.Drafts.{drafted, blank-draft, taken, operand, asked, finished};
+ghost use Rattle.arguments.specs.Drafts.{drafted, blank-draft, taken, by-word, operand, playing-of, played, asked, finished};
+ghost use Rattle.arguments.specs.Words.{word-of};
+use crate::bus::Bus;
+use crate::bus::read_bus;
 use crate::fault::ArgumentFault;
 use crate::figures::ResetParameters;
+use crate::figures::cursor;
+use crate::figures::frames;
 use crate::figures::parameters;
 use crate::figures::row;
 use crate::figures::start;
@@ -20,8 +25,19 @@ pub struct Request<'a> {
     pub page: &'a str,
     // this row alone
     pub row: Option<u8>,
-    // the words of the stills in place of the listing
+    // the words in place of the listing
     pub words: bool,
+    // column and row of the cursor, from 0
+    pub cursor: Option<(u8, u8)>,
+    // frames to be played; the stills where there are none
+    pub playing: Option<Playing<'a>>,
+}
+
+// Frames over a bus.
+#[derive(Clone, Copy)]
+pub struct Playing<'a> {
+    pub bus: Bus<'a>,
+    pub frames: u16,
 }
 
 #[derive(Clone, Copy)]
@@ -35,6 +51,9 @@ pub enum Asked<'a> {
 enum Awaited {
     Nothing,
     RowNumber,
+    BusKind,
+    FrameCount,
+    CursorPlace,
 }
 
 // What has been read of the arguments so far.
@@ -45,6 +64,9 @@ pub struct Draft<'a> {
     page: Option<&'a str>,
     row: Option<u8>,
     words: bool,
+    cursor: Option<(u8, u8)>,
+    bus: Option<Bus<'a>>,
+    frames: Option<u16>,
     help: bool,
     awaited: Awaited,
 }
@@ -59,6 +81,9 @@ impl<'a> Draft<'a> {
             page: None,
             row: None,
             words: false,
+            cursor: None,
+            bus: None,
+            frames: None,
             help: false,
             awaited: Awaited::Nothing,
         }
@@ -70,19 +95,44 @@ impl<'a> Draft<'a> {
             (λ _. taken (drafted (now (self .entry))) (now (text .entry)) ≡ Ok (drafted (now (self .exit))))
             (λ e. taken (drafted (now (self .entry))) (now (text .entry)) ≡ Err e) ⌝ }
     {
-        match (self.awaited, Word::read(text)) {
-            (Awaited::RowNumber, _) => match row(text.as_bytes()) {
+        match self.awaited {
+            Awaited::Nothing => return self.word(text),
+            Awaited::RowNumber => match row(text.as_bytes()) {
                 None => return Err(ArgumentFault::BadRow),
-                number => {
-                    self.row = number;
-                    self.awaited = Awaited::Nothing;
-                }
+                number => self.row = number,
             },
-            (Awaited::Nothing, Word::Row) => self.awaited = Awaited::RowNumber,
-            (Awaited::Nothing, Word::Words) => self.words = true,
-            (Awaited::Nothing, Word::Help) => self.help = true,
-            (Awaited::Nothing, Word::UnknownOption) => return Err(ArgumentFault::UnknownOption),
-            (Awaited::Nothing, Word::Operand) => return self.operand(text),
+            Awaited::BusKind => match read_bus(text.as_bytes()) {
+                None => return Err(ArgumentFault::BadBus),
+                bus => self.bus = bus,
+            },
+            Awaited::FrameCount => match frames(text.as_bytes()) {
+                None => return Err(ArgumentFault::BadFrames),
+                number => self.frames = number,
+            },
+            Awaited::CursorPlace => match cursor(text.as_bytes()) {
+                None => return Err(ArgumentFault::BadCursor),
+                place => self.cursor = place,
+            },
+        }
+        self.awaited = Awaited::Nothing;
+        Ok(())
+    }
+
+    // An argument that is no option's value.
+    fn word(&mut self, text: &'a str) -> Result<(), ArgumentFault>
+        ensures { λ r. ⌜ Cases r
+            (λ _. by-word (word-of (now (text .entry))) (drafted (now (self .entry))) (now (text .entry)) ≡ Ok (drafted (now (self .exit))))
+            (λ e. by-word (word-of (now (text .entry))) (drafted (now (self .entry))) (now (text .entry)) ≡ Err e) ⌝ }
+    {
+        match Word::read(text) {
+            Word::Help => self.help = true,
+            Word::Words => self.words = true,
+            Word::Row => self.awaited = Awaited::RowNumber,
+            Word::Bus => self.awaited = Awaited::BusKind,
+            Word::Frames => self.awaited = Awaited::FrameCount,
+            Word::Cursor => self.awaited = Awaited::CursorPlace,
+            Word::UnknownOption => return Err(ArgumentFault::UnknownOption),
+            Word::Operand => return self.operand(text),
         }
         Ok(())
     }
@@ -117,20 +167,40 @@ impl<'a> Draft<'a> {
         if self.help {
             return Ok(Asked::Help);
         }
-        match (self.awaited, self.parameters, self.start, self.page) {
-            (Awaited::RowNumber, _, _, _) => Err(ArgumentFault::NoRow),
-            (Awaited::Nothing, None, _, _) => Err(ArgumentFault::NoArguments),
-            (Awaited::Nothing, Some(_), None, _) => Err(ArgumentFault::NoStart),
-            (Awaited::Nothing, Some(_), Some(_), None) => Err(ArgumentFault::NoPage),
-            (Awaited::Nothing, Some(parameters), Some(start), Some(page)) => {
-                Ok(Asked::Listing(Request {
-                    parameters,
-                    start,
-                    page,
-                    row: self.row,
-                    words: self.words,
-                }))
-            }
+        match self.awaited {
+            Awaited::RowNumber => return Err(ArgumentFault::NoRow),
+            Awaited::BusKind => return Err(ArgumentFault::NoBus),
+            Awaited::FrameCount => return Err(ArgumentFault::NoFrames),
+            Awaited::CursorPlace => return Err(ArgumentFault::NoCursor),
+            Awaited::Nothing => {}
+        }
+        match (self.parameters, self.start, self.page) {
+            (None, _, _) => Err(ArgumentFault::NoArguments),
+            (Some(_), None, _) => Err(ArgumentFault::NoStart),
+            (Some(_), Some(_), None) => Err(ArgumentFault::NoPage),
+            (Some(parameters), Some(start), Some(page)) => Ok(Asked::Listing(Request {
+                parameters,
+                start,
+                page,
+                row: self.row,
+                words: self.words,
+                cursor: self.cursor,
+                playing: self.playing()?,
+            })),
+        }
+    }
+
+    // One frame where a bus stands alone.
+    fn playing(self) -> Result<Option<Playing<'a>>, ArgumentFault>
+        ensures { λ r. ⌜ Cases r
+            (λ p. played (drafted (self .entry)) ≡ Ok (playing-of p))
+            (λ e. played (drafted (self .entry)) ≡ Err e) ⌝ }
+    {
+        match (self.bus, self.frames) {
+            (None, None) => Ok(None),
+            (None, Some(_)) => Err(ArgumentFault::FramesWithoutBus),
+            (Some(bus), None) => Ok(Some(Playing { bus, frames: 1 })),
+            (Some(bus), Some(frames)) => Ok(Some(Playing { bus, frames })),
         }
     }
 }

@@ -6,9 +6,12 @@ ghost use Rattle.arguments.specs.Words.{other-word, word-of};
 #[derive(Clone, Copy, PartialEq, Eq, Debug)]
 pub enum Word {
     Help,
-    // an option whose number comes next
-    Row,
     Words,
+    // options whose values come next
+    Row,
+    Bus,
+    Frames,
+    Cursor,
     UnknownOption,
     Operand,
 }
@@ -35,6 +38,15 @@ impl Word {
         }
         if text == "--words" {
             return Word::Words;
+        }
+        if text == "--bus" {
+            return Word::Bus;
+        }
+        if text == "--frames" {
+            return Word::Frames;
+        }
+        if text == "--cursor" {
+            return Word::Cursor;
         }
         other(text.as_bytes())
     }
