@@ -8,7 +8,7 @@ use std::io::Write;
 
 const PART: usize = 65_536;
 
-// So few bytes end at most three lines, whose answers fit in little memory.
+// So few bytes end at most three lines of clocks, whose answers fit in little memory.
 const FEW: usize = 16;
 
 // A play is refused for want of memory alone.

@@ -106,9 +106,6 @@ unfoldable pub printed-from : Stage → (held : List ℕ) → List ℕ → List 
 printed-from s held [] = ended s held
 printed-from s held (b ∷ bs) = cond (eqb b 10) (said s held ++ printed-from (next s held) [] bs) (printed-from s (held ++ b ∷ []) bs)
 
-abbrev pub printed : List ℕ → List ℕ
-printed text = printed-from new [] text
-
 -- bytes have been fed: whatever is still to come, what is printed and will be printed is the same as before they were fed
 abbrev pub Fed : Stage → (held bytes out : List ℕ) → Stage → (held₂ out₂ : List ℕ) → Type 0
 Fed s held bytes out s₂ held₂ out₂ = (rest : List ℕ) → out₂ ++ printed-from s₂ held₂ rest ≡ out ++ printed-from s held (bytes ++ rest)
