@@ -80,17 +80,40 @@ fn report(kind: Kind, program: &str, seed: u64, input: Vec<u8>) -> io::Result<()
     Ok(())
 }
 
-/// Plays the seeds from `first` on; answers how many lines were compared and whether all were equal.
-pub fn seeds(kind: Kind, program: &str, first: u64, count: u64) -> io::Result<(u64, bool)> {
-    let mut lines = 0;
+/// How much was compared.
+#[derive(Default)]
+pub struct Compared {
+    pub lines: usize,
+    pub clocks: usize,
+}
+
+impl Compared {
+    fn add(&mut self, input: &[u8], answers: &[u8]) {
+        let lines = || answers.split(|b| *b == b'\n').filter(|line| !line.is_empty());
+        self.lines += lines().count();
+        // Only words have eight digits, and those that are no still's are clocks'.
+        self.clocks += lines().filter(|line| line.len() == 8).count() - still_words(input);
+    }
+}
+
+/// How many words the stills of a script print; each prints its whole buffer, even if it is refused.
+fn still_words(input: &[u8]) -> usize {
+    let lines = input.split(|b| *b == b'\n').filter_map(|line| std::str::from_utf8(line).ok());
+    let sizes = lines.filter_map(|line| line.strip_prefix("still ")?.split(' ').nth(1)?.parse::<usize>().ok());
+    sizes.sum()
+}
+
+/// Plays the seeds from `first` on; answers what was compared, or nothing if a difference was found.
+pub fn seeds(kind: Kind, program: &str, first: u64, count: u64) -> io::Result<Option<Compared>> {
+    let mut compared = Compared::default();
     for seed in first..first + count {
         let input = kind.input(seed);
         let ours = kind.own(&input)?;
         if ours != other(program, &input)? {
             report(kind, program, seed, input)?;
-            return Ok((lines, false));
+            return Ok(None);
         }
-        lines += ours.iter().filter(|b| **b == b'\n').count() as u64;
+        compared.add(&input, &ours);
     }
-    Ok((lines, true))
+    Ok(Some(compared))
 }

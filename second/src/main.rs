@@ -15,13 +15,16 @@ mod script;
 mod source;
 #[cfg(test)]
 mod tests;
+mod timed;
 
-use compare::Kind;
+use compare::{Compared, Kind};
 use std::io::{self, BufWriter, Write};
 use std::process::ExitCode;
+use timed::Run;
 
 const USAGE: &str = "usage: second script | player | random SEED | random-player SEED
-       second against-script PROGRAM SEED COUNT | against-player PROGRAM SEED COUNT";
+       second against-script PROGRAM SEED COUNT | against-player PROGRAM SEED COUNT
+       second timed COMPOSITION START PAGEFILE BUS CLOCKS";
 const OUTPUT_BUFFER: usize = 1 << 16;
 
 fn main() -> ExitCode {
@@ -35,6 +38,7 @@ fn main() -> ExitCode {
         ["random-player", seed] => print(seed, random::player::make, &mut out),
         ["against-script", program, seed, count] => against(Kind::Scripts, program, seed, count, &mut out),
         ["against-player", program, seed, count] => against(Kind::Lines, program, seed, count, &mut out),
+        ["timed", composition, start, page, bus, clocks] => timed(composition, start, page, bus, clocks, &mut out),
         _ => Err(bad_usage()),
     };
     match done.and_then(|()| out.flush()) {
@@ -61,11 +65,20 @@ fn number(text: &str) -> io::Result<u64> {
 /// Plays `count` seeds against another program and says what was compared.
 fn against(kind: Kind, program: &str, seed: &str, count: &str, out: &mut impl Write) -> io::Result<()> {
     let (seed, count) = (number(seed)?, number(count)?);
-    let (lines, equal) = compare::seeds(kind, program, seed, count)?;
-    if !equal {
+    let Some(Compared { lines, clocks }) = compare::seeds(kind, program, seed, count)? else {
         return Err(io::Error::other("the programs differ"));
-    }
-    writeln!(out, "{count} seeds from {seed} on: {lines} lines of answers compared with {program}, all equal")
+    };
+    writeln!(
+        out,
+        "{count} seeds from {seed} on: {lines} lines of answers compared with {program}, {clocks} of them words of clocks, all equal"
+    )
+}
+
+/// Plays clocks, and prints no word of them but their exclusive or.
+fn timed(composition: &str, start: &str, page: &str, bus: &str, clocks: &str, out: &mut impl Write) -> io::Result<()> {
+    let clocks = number(clocks)?;
+    let sum = Run { composition, start, page, bus, clocks }.play()?;
+    writeln!(out, "{clocks} clocks played, the exclusive or of their words is {sum:08X}")
 }
 
 fn print(seed: &str, make: impl Fn(u64) -> Vec<u8>, out: &mut impl Write) -> io::Result<()> {

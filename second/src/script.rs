@@ -62,9 +62,7 @@ impl Request {
             ["page", digits] => Request::Page(hex::bytes(digits.as_bytes())?),
             ["free"] => Request::Free,
             ["turns", free, busy] => Request::Turns(free.parse().ok()?, busy.parse().ok()?),
-            ["spans", ref spans @ ..] => {
-                Request::Spans(spans.iter().map(|span| read_span(span)).collect::<Option<_>>()?)
-            }
+            ["spans", ref spans @ ..] => Request::Spans(read_spans(spans.iter().copied())?),
             ["command", byte] => Request::Command(read_byte(byte)?),
             ["parameter", byte] => Request::Parameter(read_byte(byte)?),
             ["status"] => Request::Status,
@@ -86,6 +84,10 @@ fn read_byte(digits: &str) -> Option<u8> {
         [byte] => Some(byte),
         _ => None,
     }
+}
+
+pub fn read_spans<'a>(spans: impl Iterator<Item = &'a str>) -> Option<Vec<Span>> {
+    spans.map(read_span).collect()
 }
 
 fn read_span(text: &str) -> Option<Span> {
