@@ -46,53 +46,19 @@ fn rows_behind_special_codes_are_dark() -> Result<(), Fail> {
 
 #[test]
 fn the_seventeenth_field_character_overwrites_the_first() -> Result<(), Fail> {
-    let page = [
-        0x81,
-        0x40,
-        0x81,
-        0x41,
-        0x81,
-        0x42,
-        0x81,
-        0x43,
-        0x81,
-        0x44,
-        0x81,
-        0x45,
-        0x81,
-        0x46,
-        0x81,
-        0x47,
-        0x81,
-        0x48,
-        0x81,
-        0x49,
-        0x81,
-        0x4A,
-        0x81,
-        0x4B,
-        0x81,
-        0x4C,
-        0x81,
-        0x4D,
-        0x81,
-        0x4E,
-        0x81,
-        0x4F,
-        0x81,
-        0x50,
-    ];
+    let page =
+        b"\x81@\x81A\x81B\x81C\x81D\x81E\x81F\x81G\x81H\x81I\x81J\x81K\x81L\x81M\x81N\x81O\x81P";
     // sixteen positions keep their characters; of seventeen the first shows the last
     check_eq(
-        word([0x0F, 0x00, 0x00, 0x00], &page, None, 0, (1, 0, 0)),
+        word([0x0F, 0x00, 0x00, 0x00], page, None, 0, (1, 0, 0)),
         Ok(0x20040),
     )?;
     check_eq(
-        word([0x10, 0x00, 0x00, 0x00], &page, None, 0, (1, 0, 0)),
+        word([0x10, 0x00, 0x00, 0x00], page, None, 0, (1, 0, 0)),
         Ok(0x20050),
     )?;
     check_eq(
-        word([0x10, 0x00, 0x00, 0x00], &page, None, 0, (1, 0, 1)),
+        word([0x10, 0x00, 0x00, 0x00], page, None, 0, (1, 0, 1)),
         Ok(0x20041),
     )
 }
@@ -132,10 +98,21 @@ fn the_line_count_of_either_mode() -> Result<(), Fail> {
     )
 }
 
+// The first word of a row with the cursor on its first character, by the fourth parameter of Reset.
+fn under_cursor(fourth: u8, blink: u8) -> Result<u32, Refusal> {
+    let page = [0x41, 0x42];
+    word(
+        [0x01, 0x00, 0x00, fourth],
+        &page,
+        Some((0, 0)),
+        blink,
+        (1, 0, 0),
+    )
+}
+
 #[test]
 fn each_cursor_by_the_blink_count() -> Result<(), Fail> {
     // a block inverts, an underline lights line 0; the blinking ones act while the count by 16 is below 8
-    let page = [0x41, 0x42];
     for (blink, lit) in [
         (0u8, true),
         (7, true),
@@ -146,46 +123,10 @@ fn each_cursor_by_the_blink_count() -> Result<(), Fail> {
     ] {
         let block = if lit { 0x8041 } else { 0x0041 };
         let underline = if lit { 0x4041 } else { 0x0041 };
-        check_eq(
-            word(
-                [0x01, 0x00, 0x00, 0x40],
-                &page,
-                Some((0, 0)),
-                blink,
-                (1, 0, 0),
-            ),
-            Ok(block),
-        )?;
-        check_eq(
-            word(
-                [0x01, 0x00, 0x00, 0x50],
-                &page,
-                Some((0, 0)),
-                blink,
-                (1, 0, 0),
-            ),
-            Ok(underline),
-        )?;
-        check_eq(
-            word(
-                [0x01, 0x00, 0x00, 0x60],
-                &page,
-                Some((0, 0)),
-                blink,
-                (1, 0, 0),
-            ),
-            Ok(0x8041),
-        )?;
-        check_eq(
-            word(
-                [0x01, 0x00, 0x00, 0x70],
-                &page,
-                Some((0, 0)),
-                blink,
-                (1, 0, 0),
-            ),
-            Ok(0x4041),
-        )?;
+        check_eq(under_cursor(0x40, blink), Ok(block))?;
+        check_eq(under_cursor(0x50, blink), Ok(underline))?;
+        check_eq(under_cursor(0x60, blink), Ok(0x8041))?;
+        check_eq(under_cursor(0x70, blink), Ok(0x4041))?;
     }
     Ok(())
 }
