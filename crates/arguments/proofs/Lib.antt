@@ -1,3 +1,2 @@
 mod Numerals
 mod Others
-mod Spans

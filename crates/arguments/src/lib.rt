@@ -1,4 +1,6 @@
 // The arguments of the program that lists a screen.
+#![tactic(auto)]
+
 pub mod bus;
 pub mod fault;
 pub mod figures;

@@ -1,4 +1,6 @@
 // Worked cases of ports, windows and stills.
+#![tactic(auto)]
+
 #[cfg(test)]
 mod ports;
 #[cfg(test)]

@@ -15,5 +15,5 @@ core_of k =
       bursts = bursts_of k.burst;
       gap = k.gap;
       fill = buffer_of k.fill;
-      shown = shown_of k.shown.row;
+      shown = shown_of k.shown;
     }

@@ -1,7 +1,6 @@
 // What the clock moves: the place of the beam in the frame, and the row buffers.
 use frame::burst::Burst;
-use rows::drawn::DrawnRow;
-use rows::state::RowBuffer;
+use rows::state::{RowBuffer, Showing};
 
 #[derive(Clone, Copy)]
 pub struct Raster {
@@ -22,8 +21,7 @@ pub struct Raster {
     // the row that is being taken
     pub fill: RowBuffer,
     // the row that is being shown
-    pub shown: DrawnRow,
+    pub shown: Showing,
 }
 
-pub mod idle;
 pub mod steps;

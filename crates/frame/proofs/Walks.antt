@@ -6,8 +6,7 @@ use Rattle.std.proofs.lemmas.Bool.Decides.{nat_tests}
 use Rattle.refusal.specs.declared.Refusal.{Refusal}
 use Rattle.source.specs.Meaning.{Meaning, handed, left, begun, answer, clocked}
 use Rattle.video.specs.Composition.{Shape, Proper, line_count}
-use Rattle.video.specs.Picture.{bit, dark_word, cell_word}
-use Rattle.video.proofs.Looks.{dark_small, cell_small}
+use Rattle.video.specs.Picture.{bit, text_signals, graphic_signals, finished, dark_word, cell_word, signals_word}
 use Rattle.video.specs.declared.cell.Cell.{Cell}
 use Rattle.video.specs.declared.cell.Cell.TheVariants.{Dark, Text, Symbol}
 use Rattle.video.specs.declared.signals.Signals.{Signals}
@@ -243,6 +242,26 @@ at_alike c b q page free blink t rest s s₂ a e =
     }
 
 -- picture bits lie below bit 22
+signals_small : (n : ℕ) (x : Signals) → n < 16 → signals_word n x < 0x400000
+signals_small n x h =
+    omega (arith, bit_small x.la0, bit_small x.la1, bit_small x.lten, bit_small x.rvv, bit_small x.vsp, bit_small x.hglt, bit_small x.gpa0, bit_small x.gpa1)
+  where
+    bit_small : (v : Bool) → bit v ≤ 1
+    bit_small true = omega arith
+    bit_small false = omega arith
+
+dark_small : (n : ℕ) (h v : Bool) → n < 16 → dark_word n h v < 0x400000
+dark_small n true true e = omega arith
+dark_small n true false e = omega arith
+dark_small n false true e = omega arith
+dark_small n false false e = omega arith
+
+cell_small : (c : Shape) (line k : ℕ) (here : Bool) (x : Cell) → line_count c line < 16 → cell_word c line k here x < 0x400000
+unfolding cell_word
+cell_small c line k here Dark h = dark_small (line_count c line) false false h
+cell_small c line k here (Text cc f) h = signals_small (line_count c line) (finished c line k here (text_signals c.u line k cc f)) h
+cell_small c line k here (Symbol g f) h = signals_small (line_count c line) (finished c line k here (graphic_signals c.u line k g f)) h
+
 pick_small : (b : Bool) (x y n : ℕ) → x < n → y < n → cond b x y < n
 pick_small true x y n h g = h
 pick_small false x y n h g = g

@@ -74,14 +74,10 @@ hrtc c k = nat_le c.h k.column
 abbrev pub vrtc : Shape → Core → Bool
 vrtc c k = k.row == 0 || nat_lt c.r k.row
 
--- a clock shows a column of a row, but not in retrace, in a frame that is not armed and in one that went dark
-abbrev pub lit : Shape → Core → Bool
-lit c k = k.armed && (not k.dark && (not (vrtc c k) && not (hrtc c k)))
-
--- the picture bits of a clock
+-- the picture bits of a clock: dark in retrace, in a frame that is not armed and in one that went dark
 abbrev pub pictured : Shape → Option (ℕ × ℕ) → Core → ℕ
 pictured c q k =
-    cond (lit c k)
+    cond (k.armed && (not k.dark && (not (vrtc c k) && not (hrtc c k))))
     (cell_word c k.line k.blink (cursor_in q k.row k.column) (column_cell k.shown k.column))
     (dark_word (line_count c k.line) (hrtc c k) (vrtc c k))
 

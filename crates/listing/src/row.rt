@@ -48,8 +48,7 @@ pub fn trimmed(text: &[u8]) -> &[u8]
     &text[0..end]
 }
 
-// A digit, 0 to 9 and A to F.
-pub fn digit(value: u32) -> u8
+fn digit(value: u32) -> u8
     requires { value < 16 }
     ensures { result ≡ upper value }
 {

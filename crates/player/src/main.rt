@@ -1,4 +1,6 @@
 // Plays hexadecimal lines from standard input on one console, and prints the answers.
+#![tactic(auto)]
+
 use anyhow::anyhow;
 use refusal::Refusal;
 use replay::Player;

@@ -1,4 +1,6 @@
 // Why a call is refused.
+#![tactic(auto)]
+
 ghost use Rattle.std.specs.Prelude.{◌≡◌, Some};
 ghost use Rattle.refusal.specs.Numbers.{number, words};
 ghost use Rattle.refusal.specs.declared.Refusal.TheVariants.{OutOfMemory};

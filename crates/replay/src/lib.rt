@@ -1,4 +1,6 @@
 // The player: hexadecimal lines in, the answers of one console out.
+#![tactic(auto)]
+
 mod digits;
 mod faults;
 mod machine;

@@ -1,7 +1,8 @@
 // Rows of a screen: what they take from a page, and what they show.
+#![tactic(auto)]
+
 pub mod buffer;
 pub mod burst;
-pub mod drawn;
 pub mod found;
 pub mod kinds;
 pub mod page;

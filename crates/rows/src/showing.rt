@@ -52,17 +52,16 @@ fn ends_screen(p: Position) -> bool
     }
 }
 
-impl Showing {
-    // A column as it is shown, a field character by what the memory holds of it.
-    fn resolved(&self, column: Column) -> Cell
-        ensures { result ≡ resolved self.now.ring column }
-    {
-        match column {
-            Column::Fixed(cell) => cell,
-            Column::Memory(k, field) => Cell::Text(self.ring[(k % 16) as usize], field),
-        }
+fn resolved(ring: &[u8; 16], column: Column) -> Cell
+    ensures { result ≡ resolved ring.now column }
+{
+    match column {
+        Column::Fixed(cell) => cell,
+        Column::Memory(k, field) => Cell::Text(ring[(k % 16) as usize], field),
     }
+}
 
+impl Showing {
     // One position more.
     pub(crate) fn put(&mut self, p: Position)
         requires { self.old.len < 80 }
@@ -92,6 +91,6 @@ impl Showing {
         } else {
             Column::Fixed(Cell::Dark)
         };
-        self.resolved(column)
+        resolved(&self.ring, column)
     }
 }

@@ -5,14 +5,14 @@ use refusal::Refusal;
 use source::{FreeBus, SpanBus, TurnBus};
 
 #[derive(Drop)]
-pub(crate) enum Bus {
+pub enum Bus {
     Free(FreeBus),
     Turns(TurnBus),
     Spans(SpanBus),
 }
 
 impl Bus {
-    pub(crate) fn play(
+    pub fn play(
         &mut self,
         console: &mut Console,
         calls: &[Call],

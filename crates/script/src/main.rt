@@ -1,4 +1,6 @@
 // Plays a script of requests and prints the answers, so that they can be compared with another program's.
+#![tactic(auto)]
+
 mod bus;
 mod session;
 

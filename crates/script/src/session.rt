@@ -13,7 +13,7 @@ use std::io::Write;
 const PART: u32 = 4096;
 
 #[derive(Drop)]
-pub(crate) struct Session {
+pub struct Session {
     heap: Global,
     console: Console,
     page: Vec<u8>,
@@ -64,7 +64,7 @@ fn span(text: &str) -> anyhow::Result<Span> {
 }
 
 impl Session {
-    pub(crate) fn new(heap: Global) -> anyhow::Result<Session> {
+    pub fn new(heap: Global) -> anyhow::Result<Session> {
         let mut clocks = Vec::new(heap);
         for _ in 0..PART {
             clocks.push(Call::Clock)?;
@@ -80,19 +80,19 @@ impl Session {
         })
     }
 
-    pub(crate) fn answers(&self) -> usize {
+    pub fn answers(&self) -> usize {
         self.out.len()
     }
 
-    pub(crate) fn printed(&self) -> &[u8] {
+    pub fn printed(&self) -> &[u8] {
         self.out.as_slice()
     }
 
-    pub(crate) fn clear(&mut self) {
+    pub fn clear(&mut self) {
         self.out.clear();
     }
 
-    pub(crate) fn request(&mut self, line: &str) -> anyhow::Result<()> {
+    pub fn request(&mut self, line: &str) -> anyhow::Result<()> {
         let mut words = line.split(' ');
         let name = words.next().unwrap_or("");
         let first = words.next().unwrap_or("");

@@ -1,4 +1,4 @@
-pub mod Draining
+mod Draining
 mod Reading
 mod Rounds
 mod Scan

@@ -1,7 +1,7 @@
 // Runs of clocks over any source.
-ghost use Rattle.std.specs.Prelude.{◌≡◌, true};
+ghost use Rattle.std.specs.Prelude.{◌≡◌, true, false};
 ghost use Rattle.source.specs.Meaning.{answer, clocked};
-ghost use Rattle.source.specs.Runs.{Drained};
+ghost use Rattle.source.specs.Runs.{Drained, waited};
 
 use crate::bus::Source;
 
@@ -12,11 +12,26 @@ fn ask<S: Source>(source: &mut S) -> Option<u8>
     source.clock(true)
 }
 
+fn pass<S: Source>(source: &mut S)
+    ensures { means source.new ≡ clocked (means source.old) false }
+{
+    let _ = source.clock(false);
+}
+
 // One clock for each place, a byte wanted in all of them; each place takes what its clock answered.
 pub fn drain<S: Source>(source: &mut S, came: &mut [Option<u8>])
     ensures { Drained (means source.old) (means source.new) came.new }
 {
     for place in came.iter_mut() {
         *place = ask(source);
+    }
+}
+
+// Clocks in which no byte is wanted: only time passes.
+pub fn wait<S: Source>(source: &mut S, clocks: u32)
+    ensures { means source.new ≡ waited clocks (means source.old) }
+{
+    for _ in 0..clocks {
+        pass(source);
     }
 }

@@ -1,4 +1,6 @@
 // Where screen bytes come from: one interface, and three sources over a page in memory.
+#![tactic(auto)]
+
 mod bus;
 mod clocks;
 mod cycle;
@@ -9,7 +11,7 @@ mod stalls;
 mod turns;
 
 pub use bus::Source;
-pub use clocks::drain;
+pub use clocks::{drain, wait};
 pub use free::FreeBus;
 pub use spans::SpanBus;
 pub use stalls::Span;

@@ -1,7 +1,9 @@
 // Plays each source for thousands of clocks and prints which bytes came when,
 // against the free clocks worked out in another way.
+#![tactic(auto)]
+
 use refusal::Refusal;
-use source::{FreeBus, Source, Span, SpanBus, TurnBus, drain};
+use source::{FreeBus, Source, Span, SpanBus, TurnBus, drain, wait};
 use std::alloc::{AllocError, Global};
 use std::io;
 
@@ -121,7 +123,7 @@ fn play_free(rt: &HostRuntime, page: &[u8]) -> anyhow::Result<()> {
     print_made(rt, "free bus", bus.make(heap, page))?;
     report(rt, "free bus", &mut bus, page, free.as_slice())?;
     bus.begin();
-    bus.wait(5000);
+    wait(&mut bus, 5000);
     report(
         rt,
         "begun, 5000 clocks later",
@@ -145,7 +147,7 @@ fn play_turns(rt: &HostRuntime, page: &[u8], free: u8, busy: u8) -> anyhow::Resu
         turn_clocks(heap, a, b, 0)?.as_slice(),
     )?;
     bus.begin();
-    bus.wait(3001);
+    wait(&mut bus, 3001);
     bus.begin();
     let after = turn_clocks(heap, a, b, 7097)?;
     report(
@@ -180,7 +182,7 @@ fn play_on(rt: &HostRuntime, page: &[u8]) -> anyhow::Result<()> {
     let free = turn_clocks(heap, 1, 0, 0)?;
     let mut bus = SpanBus::new(heap);
     print_made(rt, "span bus", bus.make(heap, page, &spans))?;
-    bus.wait(3000);
+    wait(&mut bus, 3000);
     report(rt, "3000 clocks later", &mut bus, page, free.as_slice())?;
     print_made(rt, "made anew", bus.make(heap, page, &spans))?;
     report(
@@ -197,7 +199,7 @@ fn play_on(rt: &HostRuntime, page: &[u8]) -> anyhow::Result<()> {
         bus.make(heap, &[1, 2, 3], &[busy(2_147_483_648, 1)]),
     )?;
     report(rt, "as it stood", &mut bus, page, free.as_slice())?;
-    bus.wait(u32::MAX);
+    wait(&mut bus, u32::MAX);
     let count = bus.count();
     println!(rt; "count {count}")?;
     bus.begin();

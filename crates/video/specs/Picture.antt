@@ -7,7 +7,6 @@ use Rattle.video.specs.declared.format.CursorFormat.TheVariants.{BlinkingBlock, 
 use Rattle.video.specs.declared.field.Field.{Field}
 use Rattle.video.specs.declared.mark.Mark.{Mark}
 use Rattle.video.specs.declared.mark.Mark.TheVariants.{Plain, Vsp, Lten, La01, La10, La11}
-use Rattle.video.specs.declared.scan.ScanLine.{ScanLine}
 use Rattle.video.specs.declared.signals.Signals.{Signals}
 use Rattle.video.specs.declared.cell.Cell.{Cell}
 use Rattle.video.specs.declared.cell.Cell.TheVariants.{Dark, Text, Symbol}
@@ -19,15 +18,10 @@ marks =
     ∷ (Vsp, Lten, La01) ∷ (La01, La11, La01) ∷ (La01, La10, La01) ∷ (La01, Lten, Vsp)
     ∷ (Vsp, Lten, Vsp) ∷ (La01, La01, La01) ∷ (La01, Lten, La01) ∷ (Plain, Plain, Plain) ∷ []
 
--- what a line of a row is to all its columns, at a blink count: above the line U or on it, with blinking characters off, and with VSP
--- throughout, as the first and the last line are with U of 8 or more
-abbrev pub scan_line : Shape → (line blink : ℕ) → ScanLine
-scan_line c line k = record { above = nat_lt line c.u; on = (line == c.u); off = nat_le 16 k; blanked = nat_le 8 c.u && (line == 0 || line + 1 == c.l) }
-
-abbrev pub mark : ScanLine → (code : ℕ) → Mark
-mark t code =
-    cond t.above (slice_index_or marks code (Plain, Plain, Plain)).0
-    (cond t.on (slice_index_or marks code (Plain, Plain, Plain)).1 (slice_index_or marks code (Plain, Plain, Plain)).2)
+abbrev pub mark : (u line code : ℕ) → Mark
+mark u line code =
+    cond (nat_lt line u) (slice_index_or marks code (Plain, Plain, Plain)).0
+    (cond (line == u) (slice_index_or marks code (Plain, Plain, Plain)).1 (slice_index_or marks code (Plain, Plain, Plain)).2)
 
 -- LA1, LA0, LTEN and VSP of a mark
 abbrev pub marked : Mark → Bool × Bool × Bool × Bool
@@ -38,35 +32,39 @@ marked La01 = (false, true, false, false)
 marked La10 = (true, false, false, false)
 marked La11 = (true, true, false, false)
 
--- a character in its field
-abbrev pub text_signals : ScanLine → (cc : ℕ) → Field → Signals
-text_signals t c f =
+-- a character in its field, at a blink count
+abbrev pub text_signals : (u line blink cc : ℕ) → Field → Signals
+text_signals u line k c f =
     record {
       cc = c;
       la1 = false;
       la0 = false;
-      lten = f.underline && t.on;
+      lten = f.underline && (line == u);
       rvv = f.reverse;
-      vsp = (f.blink && t.off) || t.blanked;
+      vsp = f.blink && nat_le 16 k;
       hglt = f.highlight;
       gpa1 = f.gpa1;
       gpa0 = f.gpa0;
     }
 
 -- a graphic byte: code in bits 5 to 2, blink in bit 1, highlight in bit 0
-abbrev pub graphic_signals : ScanLine → (byte : ℕ) → Field → Signals
-graphic_signals t b f =
+abbrev pub graphic_signals : (u line blink byte : ℕ) → Field → Signals
+graphic_signals u line k b f =
     record {
       cc = b % 128;
-      la1 = (marked (mark t (b / 4 % 16))).0;
-      la0 = (marked (mark t (b / 4 % 16))).1;
-      lten = (marked (mark t (b / 4 % 16))).2;
+      la1 = (marked (mark u line (b / 4 % 16))).0;
+      la0 = (marked (mark u line (b / 4 % 16))).1;
+      lten = (marked (mark u line (b / 4 % 16))).2;
       rvv = f.reverse;
-      vsp = (marked (mark t (b / 4 % 16))).3 || (has 2 b && t.off) || t.blanked;
+      vsp = (marked (mark u line (b / 4 % 16))).3 || (has 2 b && nat_le 16 k);
       hglt = has 1 b;
       gpa1 = f.gpa1;
       gpa0 = f.gpa0;
     }
+
+-- with U of 8 or more the first and the last line have VSP
+abbrev pub blanked : (u lines line : ℕ) → Bool
+blanked u n line = nat_le 8 u && (line == 0 || line + 1 == n)
 
 abbrev pub cursor_acts : CursorFormat → (blink : ℕ) → Bool
 cursor_acts BlinkingBlock k = nat_lt (k % 16) 8
@@ -80,19 +78,19 @@ is_block BlinkingUnderline = false
 is_block Block = true
 is_block Underline = false
 
--- with the cursor, where it is `here`: a block inverts RVV, an underline sets LTEN on line U
-abbrev pub pointed : CursorFormat → (blink : ℕ) → ScanLine → (here : Bool) → Signals → Signals
-pointed format k t here x =
+-- with the suppressed lines, and the cursor where it is `here`: a block inverts RVV, an underline sets LTEN on line U
+abbrev pub finished : Shape → (line blink : ℕ) (here : Bool) → Signals → Signals
+finished c line k here x =
     record {
       cc = x.cc;
       la1 = x.la1;
       la0 = x.la0;
-      vsp = x.vsp;
       hglt = x.hglt;
       gpa1 = x.gpa1;
       gpa0 = x.gpa0;
-      lten = x.lten || (here && cursor_acts format k && not (is_block format) && t.on);
-      rvv = cond (here && cursor_acts format k && is_block format) (not x.rvv) x.rvv;
+      lten = x.lten || (here && cursor_acts c.cursor k && not (is_block c.cursor) && line == c.u);
+      rvv = cond (here && cursor_acts c.cursor k && is_block c.cursor) (not x.rvv) x.rvv;
+      vsp = x.vsp || blanked c.u c.l line;
     }
 
 abbrev pub bit : Bool → ℕ
@@ -111,11 +109,5 @@ dark_word n hrtc vrtc = 0x100 * n + 0x10000 + 0x100000 * bit hrtc + 0x200000 * b
 -- the picture bits of a column, on a line, at a blink count
 unfoldable pub cell_word : Shape → (line blink : ℕ) (here : Bool) → Cell → ℕ
 cell_word c line k here Dark = dark_word (line_count c line) false false
-cell_word c line k here (Text cc f) = signals_word (line_count c line) (pointed c.cursor k (scan_line c line k) here (text_signals (scan_line c line k) cc f))
-cell_word c line k here (Symbol b f) = signals_word (line_count c line) (pointed c.cursor k (scan_line c line k) here (graphic_signals (scan_line c line k) b f))
-
--- the same without line count and cursor: what a column has alike on all lines of a kind
-unfoldable pub look : ScanLine → Cell → ℕ
-look t Dark = dark_word 0 false false
-look t (Text cc f) = signals_word 0 (text_signals t cc f)
-look t (Symbol b f) = signals_word 0 (graphic_signals t b f)
+cell_word c line k here (Text cc f) = signals_word (line_count c line) (finished c line k here (text_signals c.u line k cc f))
+cell_word c line k here (Symbol b f) = signals_word (line_count c line) (finished c line k here (graphic_signals c.u line k b f))

@@ -4,13 +4,12 @@
 //   VRTC HRTC GPA1 GPA0 HGLT VSP RVV LTEN LA1 LA0 line count character
 ghost use Rattle.std.specs.Prelude.{◌≡◌, ℕ, ◌+◌, ◌*◌, ◌/◌, ◌%◌, ◌<◌, ◌≤◌, Bool, true, false};
 ghost use Rattle.video.specs.Composition.{shape_of};
-ghost use Rattle.video.specs.Picture.{bit, marked, text_signals, graphic_signals, cursor_acts, is_block, pointed, signals_word, dark_word, cell_word, look};
+ghost use Rattle.video.specs.Picture.{bit, marked, text_signals, graphic_signals, cursor_acts, is_block, blanked, finished, signals_word, dark_word, cell_word};
 
 use crate::composition::Composition;
 use crate::field::Field;
 use crate::format::CursorFormat;
 use crate::mark::Mark;
-use crate::scan::ScanLine;
 use crate::signals::Signals;
 use crate::table::mark;
 
@@ -23,16 +22,16 @@ pub enum Cell {
     Symbol(u8, Field),
 }
 
-fn text_signals(line: ScanLine, cc: u8, field: Field) -> Signals
-    ensures { result ≡ text_signals line cc field }
+fn text_signals(underline: u8, line: u8, blink: u8, cc: u8, field: Field) -> Signals
+    ensures { result ≡ text_signals underline line blink cc field }
 {
     Signals {
         cc,
         la1: false,
         la0: false,
-        lten: field.underline & line.on,
+        lten: field.underline & (line == underline),
         rvv: field.reverse,
-        vsp: (field.blink & line.off) | line.blanked,
+        vsp: field.blink & (blink >= 16),
         hglt: field.highlight,
         gpa1: field.gpa1,
         gpa0: field.gpa0,
@@ -53,17 +52,17 @@ fn marked(m: Mark) -> (bool, bool, bool, bool)
     }
 }
 
-fn graphic_signals(line: ScanLine, byte: u8, field: Field) -> Signals
-    ensures { result ≡ graphic_signals line byte field }
+fn graphic_signals(underline: u8, line: u8, blink: u8, byte: u8, field: Field) -> Signals
+    ensures { result ≡ graphic_signals underline line blink byte field }
 {
-    let (la1, la0, lten, vsp) = marked(mark(line, byte / 4 % 16));
+    let (la1, la0, lten, vsp) = marked(mark(underline, line, byte / 4 % 16));
     Signals {
         cc: byte % 128,
         la1,
         la0,
         lten,
         rvv: field.reverse,
-        vsp: vsp | (((byte / 2 % 2 == 1) & line.off) | line.blanked),
+        vsp: vsp | ((byte / 2 % 2 == 1) & (blink >= 16)),
         hglt: byte % 2 == 1,
         gpa1: field.gpa1,
         gpa0: field.gpa0,
@@ -88,19 +87,27 @@ fn is_block(format: CursorFormat) -> bool
     }
 }
 
-// With the cursor, which is `here` or not.
-fn pointed(format: CursorFormat, blink: u8, line: ScanLine, here: bool, x: Signals) -> Signals
-    ensures { result ≡ pointed format blink line here x }
+// An underline of 8 or more suppresses the first and the last line.
+fn blanked(underline: u8, lines: u8, line: u8) -> bool
+    ensures { result ≡ blanked underline lines line }
 {
-    let acts = here & cursor_acts(format, blink);
-    let block = is_block(format);
+    (underline >= 8) & ((line == 0) | (line as u16 + 1 == lines as u16))
+}
+
+// With the suppressed lines and the cursor, which is `here` or not.
+fn finished(composition: &Composition, line: u8, blink: u8, here: bool, x: Signals) -> Signals
+    ensures { result ≡ finished (shape_of composition.now) line blink here x }
+{
+    let acts = here & cursor_acts(composition.cursor, blink);
+    let block = is_block(composition.cursor);
+    let blanked = blanked(composition.underline, composition.lines, line);
     Signals {
         cc: x.cc,
         la1: x.la1,
         la0: x.la0,
-        lten: x.lten | (acts & (!block & line.on)),
+        lten: x.lten | (acts & (!block & (line == composition.underline))),
         rvv: if acts & block { !x.rvv } else { x.rvv },
-        vsp: x.vsp,
+        vsp: x.vsp | blanked,
         hglt: x.hglt,
         gpa1: x.gpa1,
         gpa0: x.gpa0,
@@ -145,31 +152,29 @@ impl Cell {
         ensures small { result < 0x400000 }
     {
         let count = composition.line_count(line);
-        let scan = ScanLine::new(composition, line, blink);
+        let underline = composition.underline;
         match self {
             Cell::Dark => dark_word(count, false, false),
-            Cell::Text(cc, field) => {
-                let text = text_signals(scan, cc, field);
-                signals_word(count, pointed(composition.cursor, blink, scan, here, text))
-            }
-            Cell::Symbol(byte, field) => {
-                let symbol = graphic_signals(scan, byte, field);
-                signals_word(
-                    count,
-                    pointed(composition.cursor, blink, scan, here, symbol),
-                )
-            }
-        }
-    }
-
-    // What the column has on every line of a kind, but for line count and cursor.
-    pub fn look(self, line: ScanLine) -> u32
-        ensures { result ≡ look line self }
-    {
-        match self {
-            Cell::Dark => dark_word(0, false, false),
-            Cell::Text(cc, field) => signals_word(0, text_signals(line, cc, field)),
-            Cell::Symbol(byte, field) => signals_word(0, graphic_signals(line, byte, field)),
+            Cell::Text(cc, field) => signals_word(
+                count,
+                finished(
+                    composition,
+                    line,
+                    blink,
+                    here,
+                    text_signals(underline, line, blink, cc, field),
+                ),
+            ),
+            Cell::Symbol(byte, field) => signals_word(
+                count,
+                finished(
+                    composition,
+                    line,
+                    blink,
+                    here,
+                    graphic_signals(underline, line, blink, byte, field),
+                ),
+            ),
         }
     }
 }

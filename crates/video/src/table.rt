@@ -5,7 +5,6 @@ ghost use Rattle.video.specs.declared.mark.Mark.TheVariants.{Plain};
 
 use crate::mark::Mark;
 use crate::mark::Mark::{La01, La10, La11, Lten, Plain, Vsp};
-use crate::scan::ScanLine;
 
 // By graphic code: above the underline, on it, below it.
 fn marks(code: u8) -> (Mark, Mark, Mark)
@@ -28,13 +27,13 @@ fn marks(code: u8) -> (Mark, Mark, Mark)
 }
 
 // What a graphic code does on a line, by where the underline stands.
-pub fn mark(line: ScanLine, code: u8) -> Mark
-    ensures { result ≡ mark line code }
+pub fn mark(underline: u8, line: u8, code: u8) -> Mark
+    ensures { result ≡ mark underline line code }
 {
     let (above, on, below) = marks(code);
-    if line.above {
+    if line < underline {
         above
-    } else if line.on {
+    } else if line == underline {
         on
     } else {
         below

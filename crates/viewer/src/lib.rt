@@ -1,4 +1,47 @@
-// A console as its firmware programmed it, and the listing of a page by the stills of its rows.
-pub mod screen;
-pub mod stop;
-pub mod tally;
+// Lists the rows of a page of screen bytes: by its stills, or as a console shows them clock by clock over a bus.
+#![tactic(auto)]
+
+pub mod failure;
+mod fate;
+mod film;
+mod help;
+mod picture;
+mod sheet;
+mod show;
+mod watched;
+
+use crate::failure::Failure;
+use crate::help::{HELP, USAGE};
+use crate::show::show;
+use arguments::fault::ArgumentFault;
+use arguments::request::{Asked, Draft};
+use std::env;
+
+fn arguments(words: &[String]) -> Result<Asked<'_>, ArgumentFault> {
+    let mut draft = Draft::new();
+    for word in words {
+        draft.take(word.as_str())?;
+    }
+    draft.finish()
+}
+
+fn answer(rt: &HostRuntime) -> Result<(), Failure> {
+    let mut words = Vec::new(rt.alloc());
+    for word in env::args(rt)?.skip(1) {
+        words.push(word)?;
+    }
+    match arguments(words.as_slice())? {
+        Asked::Help => print!(rt; "{USAGE}{HELP}")?,
+        Asked::Listing(request) => show(rt, request)?,
+    }
+    Ok(())
+}
+
+// What the arguments ask for, or on standard error why not.
+pub fn run(rt: &HostRuntime) -> Result<(), Failure> {
+    let done = answer(rt);
+    if let Err(failure) = &done {
+        eprint!(rt; "screen: {failure}")?;
+    }
+    done
+}

@@ -5,18 +5,16 @@ ghost use Rattle.rows.specs.Buffer.{full};
 ghost use Rattle.rows.specs.Model.{buffer_of};
 ghost use Rattle.frame.specs.Ports.{Bursts, bursts_of, new, disarmed, moved_to, first_frame};
 ghost use Rattle.frame.specs.Timing.{pause};
-ghost use Rattle.frame.specs.Machine.{frame_start, row_start, opening, idle, underrun, prepared, wants, lit, pictured, fed, turn, moved};
+ghost use Rattle.frame.specs.Machine.{frame_start, row_start, opening, idle, underrun, prepared, wants, pictured, fed, turn, moved};
 ghost use Rattle.console.specs.Raster.{core_of};
 
 use crate::raster::Raster;
 use frame::burst::Burst;
 use rows::burst::BurstSize;
-use rows::drawn::DrawnRow;
 use rows::page::{blank, cursor_in};
 use rows::state::RowBuffer;
 use video::cell::dark_word;
 use video::composition::Composition;
-use video::scan::ScanLine;
 
 // A row that takes nothing: a blank one, and what lies below the last.
 fn idle(composition: &Composition, row: u8) -> bool
@@ -54,7 +52,7 @@ impl Raster {
             },
             gap: 0,
             fill: top,
-            shown: DrawnRow::new(top.show),
+            shown: top.show,
         }
     }
 
@@ -121,10 +119,9 @@ impl Raster {
         }
     }
 
-    // The first clock of a row time behind the first: the row that was filled is shown, and the next one begins. Whether the row is late.
-    pub(crate) fn start_row(&mut self, composition: &Composition) -> bool
+    // The first clock of a row time behind the first: the row that was filled is shown, and the next one begins.
+    pub(crate) fn start_row(&mut self, composition: &Composition)
         requires { self.old.row < 255 }
-        ensures late { result ≡ underrun (core_of self.old) }
         ensures core { (ve : Bool) (b : Bursts) → core_of self.new ≡ prepared (shape_of composition.now) ve b row_start (core_of self.old) }
         ensures stays { (self.new.row ≡ self.old.row) × (self.new.line ≡ self.old.line)
             × (self.new.column ≡ self.old.column) × (self.new.blink ≡ self.old.blink) }
@@ -138,30 +135,8 @@ impl Raster {
         );
         self.dark = self.dark | late;
         self.gap = 0;
-        self.shown = DrawnRow::new(self.fill.show);
+        self.shown = self.fill.show;
         self.fill = next;
-        late
-    }
-
-    // The clock shows a column of a row.
-    pub(crate) fn lit(&self, composition: &Composition) -> bool
-        ensures { result ≡ lit (shape_of composition.now) (core_of self.now) }
-    {
-        let hrtc = self.column >= composition.columns;
-        let vrtc = (self.row == 0) | (self.row > composition.rows);
-        self.armed & (!self.dark & (!vrtc & !hrtc))
-    }
-
-    // Where a row is shown, its columns are drawn for the line.
-    pub(crate) fn draw_row(&mut self, composition: &Composition)
-        ensures core { core_of self.new ≡ core_of self.old }
-        ensures stays { (self.new.row ≡ self.old.row) × (self.new.line ≡ self.old.line)
-            × (self.new.column ≡ self.old.column) × (self.new.blink ≡ self.old.blink) }
-    {
-        if self.lit(composition) {
-            self.shown
-                .draw(ScanLine::new(composition, self.line, self.blink));
-        }
     }
 
     // The picture bits of the clock.
@@ -169,13 +144,14 @@ impl Raster {
         ensures small { result < 0x400000 }
         ensures is { result ≡ pictured (shape_of composition.now) cursor (core_of self.now) }
     {
-        if self.lit(composition) {
+        let hrtc = self.column >= composition.columns;
+        let vrtc = (self.row == 0) | (self.row > composition.rows);
+        if self.armed & (!self.dark & (!vrtc & !hrtc)) {
             let here = cursor_in(cursor, self.row as u16, self.column);
             self.shown
-                .word(composition, self.line, self.blink, self.column, here)
+                .cell(self.column)
+                .word(composition, self.line, self.blink, here)
         } else {
-            let hrtc = self.column >= composition.columns;
-            let vrtc = (self.row == 0) | (self.row > composition.rows);
             dark_word(composition.line_count(self.line), hrtc, vrtc)
         }
     }

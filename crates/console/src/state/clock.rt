@@ -1,5 +1,5 @@
 // One clock of the console over a byte source, and the light pen.
-ghost use Rattle.std.specs.Prelude.{◌≡◌, ℕ, ◌+◌, ◌*◌, ◌≤◌, true, Some, None};
+ghost use Rattle.std.specs.Prelude.{◌≡◌, ℕ, ◌+◌, ◌*◌, true, Some, None};
 ghost use Rattle.source.specs.Meaning.{begun};
 ghost use Rattle.video.specs.Composition.{shape_of};
 ghost use Rattle.video.specs.Picture.{bit};
@@ -17,9 +17,8 @@ use refusal::Refusal;
 use source::Source;
 use video::composition::Composition;
 
-pub(crate) fn bit(b: bool) -> u32
-    ensures is { result ≡ bit b }
-    ensures small { result ≤ 1 }
+fn bit(b: bool) -> u32
+    ensures { result ≡ bit b }
 {
     if b { 1 } else { 0 }
 }
@@ -62,8 +61,8 @@ impl Console {
         ensures state { state_of self.new ≡ row_opened (shape_of composition.now) (state_of self.old) }
         ensures same { self.new.composition ≡ self.old.composition }
     {
-        let late = self.raster.start_row(composition);
-        self.flags.du = self.flags.du | late;
+        self.flags.du = self.flags.du | self.raster.underrun();
+        self.raster.start_row(composition);
     }
 
     // What begins with this clock.
@@ -112,7 +111,6 @@ impl Console {
             return Err(Refusal::NoComposition);
         };
         self.prepare(&composition, source);
-        self.raster.draw_row(&composition);
         let word = self.word(&composition);
         let came = source.clock(self.raster.wants());
         self.store(&composition, came);

@@ -1,4 +1,0 @@
-mod Refused
-mod Performs
-mod Taken
-mod Over

@@ -1,3 +1,0 @@
-// The console for C: what it holds lies in the caller's memory as plain numbers, and each call reads it and writes it back.
-pub mod calls;
-mod offered;

@@ -1,4 +1,0 @@
-// Frames that a console plays clock by clock over a bus, what comes in them, and the listing of the last.
-pub mod film;
-pub mod log;
-pub mod watched;

@@ -1,3 +1,0 @@
-mod Appends
-mod Aligned
-mod Trims

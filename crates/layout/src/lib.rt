@@ -1,6 +1,0 @@
-// The lines of a listing: numbers, the figures and the picture of a row, closing lines.
-pub mod closing;
-pub mod fate;
-pub mod figures;
-pub mod numbers;
-pub mod picture;

@@ -1,8 +1,0 @@
-// A console as plain numbers in memory that may come from anywhere.
-mod column;
-mod fill;
-mod layout;
-pub mod numbers;
-pub mod packing;
-mod ports;
-mod row;

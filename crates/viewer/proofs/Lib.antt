@@ -1,3 +1,0 @@
-mod Shapes
-mod Words
-pub mod Rows

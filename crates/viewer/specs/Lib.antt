@@ -1,3 +1,0 @@
-pub mod Screens
-pub mod Rasters
-pub mod Stills
