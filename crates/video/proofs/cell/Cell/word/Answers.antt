@@ -11,12 +11,12 @@ joined c line k here w n x s t a b d e = let u : x ≡ finished c line k here t 
 
 pub returns-in-Dark : goal.returns-in-Dark
 unfolding cell_word
-returns-in-Dark c = let e = c.in-Dark.is in record { is = c.dark_word.ensures.is ∙ simp (e, c.line-count-count.ensures); small = c.dark_word.ensures.small }
+returns-in-Dark c = let e = c.in-Dark.is in record { is = c.dark_word.ensures.is ∙ simp (e, c.line_count-count.ensures); small = c.dark_word.ensures.small }
 
 pub returns-in-Text : goal.returns-in-Text
 unfolding cell_word
-returns-in-Text c = let e = c.in-Text.is in record { is = rw e (joined (shape_of c.args.composition.now) c.args.line c.args.blink c.args.here _ _ _ _ _ c.signals_word.ensures.is c.line-count-count.ensures c.finished.ensures c.text_signals.ensures); small = c.signals_word.ensures.small }
+returns-in-Text c = let e = c.in-Text.is in record { is = rw e (joined (shape_of c.args.composition.now) c.args.line c.args.blink c.args.here _ _ _ _ _ c.signals_word.ensures.is c.line_count-count.ensures c.finished.ensures c.text_signals.ensures); small = c.signals_word.ensures.small }
 
 pub returns-in-Symbol : goal.returns-in-Symbol
 unfolding cell_word
-returns-in-Symbol c = let e = c.in-Symbol.is in record { is = rw e (joined (shape_of c.args.composition.now) c.args.line c.args.blink c.args.here _ _ _ _ _ c.signals-word-in-Symbol.ensures.is c.line-count-count.ensures c.finished-in-Symbol.ensures c.graphic_signals.ensures); small = c.signals-word-in-Symbol.ensures.small }
+returns-in-Symbol c = let e = c.in-Symbol.is in record { is = rw e (joined (shape_of c.args.composition.now) c.args.line c.args.blink c.args.here _ _ _ _ _ c.signals_word-in-Symbol.ensures.is c.line_count-count.ensures c.finished-in-Symbol.ensures c.graphic_signals.ensures); small = c.signals_word-in-Symbol.ensures.small }
