@@ -1,7 +1,7 @@
 -- What a run of clocks comes to.
 use Rattle.std.proofs.Common.{◌≡◌, ℕ, zero, suc, ◌+◌, ◌-◌, ◌<◌, ◌≤◌, Bool, true, false, cond, List, [], ◌∷◌, ◌++◌, length, get_or, take, drop, set, None, Option, sym, refl, ap, ◌∙◌, append_assoc, append-nil, arith}
 use mathlib.Core.Path.{fun_ext}
-use lib.Seq.{take_nil, drop-nil}
+use lib.Seq.{take-nil, drop-nil}
 use Rattle.std.proofs.lemmas.List.{take_more_set, take_all}
 use Rattle.source.specs.Meaning.{Meaning, first_of, handed, left, answer, later, clocked}
 use Rattle.source.specs.Runs.{frees, bytes_in, waited, Drained}
@@ -57,7 +57,7 @@ frees_first f (suc n) = ap (λ k. cond (f (suc n)) (suc k) k) (frees_first f n) 
 
 front_more : (t : Bool) (k : ℕ) (rest : List ℕ) (os : List (Option ℕ)) → bytes_in os ≡ take k (left true t rest)
     → bytes_in (handed true t rest ∷ os) ≡ take (cond t (suc k) k) rest
-front_more true k [] os e = e ∙ take_nil k
+front_more true k [] os e = e ∙ take-nil k
 front_more true k (b ∷ bs) os e = ap (λ l. b ∷ l) e
 front_more false k rest os e = e
 

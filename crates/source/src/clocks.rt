@@ -6,21 +6,21 @@ ghost use Rattle.source.specs.Runs.{Drained, waited};
 use crate::bus::Source;
 
 fn ask<S: Source>(source: &mut S) -> Option<u8>
-    ensures byte { result ≡ answer (means source.old) true }
-    ensures after { means source.new ≡ clocked (means source.old) true }
+    ensures byte { result ≡ answer (S.means source.old) true }
+    ensures after { S.means source.new ≡ clocked (S.means source.old) true }
 {
     source.clock(true)
 }
 
 fn pass<S: Source>(source: &mut S)
-    ensures { means source.new ≡ clocked (means source.old) false }
+    ensures { S.means source.new ≡ clocked (S.means source.old) false }
 {
     let _ = source.clock(false);
 }
 
 // One clock for each place, a byte wanted in all of them; each place takes what its clock answered.
 pub fn drain<S: Source>(source: &mut S, came: &mut [Option<u8>])
-    ensures { Drained (means source.old) (means source.new) came.new }
+    ensures { Drained (S.means source.old) (S.means source.new) came.new }
 {
     for place in came.iter_mut() {
         *place = ask(source);
@@ -29,7 +29,7 @@ pub fn drain<S: Source>(source: &mut S, came: &mut [Option<u8>])
 
 // Clocks in which no byte is wanted: only time passes.
 pub fn wait<S: Source>(source: &mut S, clocks: u32)
-    ensures { means source.new ≡ waited clocks (means source.old) }
+    ensures { S.means source.new ≡ waited clocks (S.means source.old) }
 {
     for _ in 0..clocks {
         pass(source);

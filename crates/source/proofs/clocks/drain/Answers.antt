@@ -8,11 +8,11 @@ loop-place-preserved g c =
     let n = length c.args.came.now in
     let m = g.S.Source.means c.loop-place.source in
     let m' = g.S.Source.means c.ask.new.source in (
-      one_more c.loop-place.branch i n c.ask.result m m' _ c.loop-place-test.true c.loop-place.auto.came c.ask.ensures.byte c.ask.ensures.after c.loop-place.invariant.0,
+      one_more c.loop-place.came i n c.ask.result m m' _ c.loop-place-test.true c.loop-place.auto.came c.ask.ensures.byte c.ask.ensures.after c.loop-place.invariant.0,
       one_less i n m m' _ c.loop-place-test.true c.ask.ensures.after c.loop-place.invariant.1,
     )
 
 pub returns : goal.returns
 returns g c =
-    all_noted c.loop-place.branch c.loop-place.place-index (length c.args.came.now) (g.S.Source.means c.loop-place.source) (g.S.Source.means c.args.source.now)
+    all_noted c.loop-place.came c.loop-place.place-index (length c.args.came.now) (g.S.Source.means c.loop-place.source) (g.S.Source.means c.args.source.now)
     c.loop-place-test.false c.loop-place.auto.came c.loop-place.invariant.0 c.loop-place.invariant.1

@@ -6,6 +6,6 @@ pub returns : goal.returns
 returns c =
     let cycle = c.args.self.now in
     record {
-      this = c.is-free-free.ensures ∙ turn_now cycle.free cycle.busy cycle.gone cycle.inside;
+      this = c.is_free-free.ensures ∙ turn_now cycle.free cycle.busy cycle.gone cycle.inside;
       after = let t = turn_after cycle.free cycle.busy cycle.gone in cc;
     }
