@@ -1,6 +1,6 @@
 -- A row's positions lie in its own bytes.
 use Rattle.std.proofs.Common.{◌≡◌, ℕ, zero, suc, ◌+◌, ◌-◌, ◌*◌, ◌%◌, ◌<◌, ◌≤◌, Bool, true, false, cond, not, ◌&&◌, ◌||◌, eqb, ltb, leb, List, [], ◌∷◌, ◌++◌, length, take, drop, Option, sym, refl, ap, ◌∙◌, inl, inr, ⊎_elim, arith, length-append, length-drop}
-use Rattle.std.proofs.lemmas.Bool.{cases_Bool, cond-true, cond-false, and_parts, le_leb}
+use Rattle.std.proofs.lemmas.Bool.{cases_Bool, cond-true, cond-false, and_parts, le-leb}
 use Rattle.std.proofs.lemmas.Bool.Decides.{nat_tests}
 use Rattle.rows.specs.declared.kinds.Position.{Position}
 use Rattle.rows.specs.declared.kinds.Position.TheVariants.{Letter, Attribute, Pair, Graphic, Control, Unused}
@@ -95,8 +95,8 @@ same_from c n pre xs ys above from l w e =
     let cl : closed c.h ps ≡ true = (and_parts (closed c.h ps) (leb (count n c.h ps) (length (p ++ xs))) en).0 in
     let lp : length p ≡ length pre - from = length-drop from pre in
     let q : row_positions c.f c.h (p ++ ys) ≡ ps = same c.f p xs ys c.h cl (omega arith) in
-    let ly : leb (count n c.h ps) (length (p ++ ys)) ≡ true = le_leb _ _ (omega (arith, length-append p ys)) in
-    let lx : leb (count n c.h ps) (length (p ++ xs)) ≡ true = le_leb _ _ (omega (arith, length-append p xs)) in
+    let ly : leb (count n c.h ps) (length (p ++ ys)) ≡ true = le-leb _ _ (omega (arith, length-append p ys)) in
+    let lx : leb (count n c.h ps) (length (p ++ xs)) ≡ true = le-leb _ _ (omega (arith, length-append p xs)) in
     rw (dx, dy, q, ly, lx) refl
 
 above_whole : (c : Shape) (n : ℕ) (page : List ℕ) (above : Bool) (from : ℕ) → (taking_at c n page above from).whole ≡ true → above ≡ true

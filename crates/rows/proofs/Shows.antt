@@ -2,7 +2,7 @@
 use Rattle.std.proofs.Common.{◌≡◌, ℕ, zero, suc, ◌+◌, ◌-◌, ◌%◌, ◌<◌, ◌≤◌, Bool, true, false, cond, not, ◌&&◌, ◌||◌, eqb, ltb, leb, List, [], ◌∷◌, ◌++◌, length, get_or, take, drop, set, replicate, Some, None, Option, sym, refl, ap, ◌∙◌, inl, inr, ⊎_elim, append_assoc, append-nil, arith, length-set, get_or-set_other, get_or-set_same}
 use mathlib.Core.Path.{fun_ext}
 use lib.ListN.{get_or-replicate}
-use Rattle.std.proofs.lemmas.Bool.{cases_lt, both_ways, cases_Bool, eqb-true, eqb-false, le_leb, lt_leb, not_true, not-false, cond-true, cond-false}
+use Rattle.std.proofs.lemmas.Bool.{cases_lt, both_ways, cases_Bool, eqb-true, eqb-false, le-leb, lt-leb, not-true, not-false, cond-true, cond-false}
 use Rattle.std.proofs.lemmas.Bool.Decides.{nat_tests}
 use Rattle.rows.specs.declared.kinds.Position.{Position}
 use Rattle.rows.specs.declared.kinds.Position.TheVariants.{Letter, Attribute, Pair, Graphic, Control, Unused}

@@ -12,4 +12,4 @@ returns-then-p-composition c = λ n page f.
 pub returns : goal.returns
 returns c = λ n page f.
     shows_it (shape_of c.args.composition.now) n page c.args.cursor c.args.blink c.args.j c.args.line c.args.p (shown_of c.args.found.now.row.show) _ _ _
-    c.if-p-composition.false f.columns (c.cursor-in-here.ensures ∙ (rw add-one refl)) c.cell.ensures c.word.ensures.is
+    c.if-p-composition.false f.columns (c.cursor_in-here.ensures ∙ (rw add-one refl)) c.cell.ensures c.word.ensures.is

@@ -14,8 +14,8 @@ loop-line-preserved c =
     let a = c.args in
     let l = c.loop-line in
     let w : ℕ = width (shape_of a.composition.now) in
-    let e = c.write-line.ensures in (
+    let e = c.write_line.ensures in (
       e.size ∙ l.invariant.0,
-      λ n page f. line_more l.out c.write-line.new.out w l.line (λ (k p : ℕ). picture (shape_of a.composition.now) n page a.cursor a.blink (suc a.j) k p) (l.invariant.1 n page f) (e.words n page f) e.rest,
+      λ n page f. line_more l.out c.write_line.new.out w l.line (λ (k p : ℕ). picture (shape_of a.composition.now) n page a.cursor a.blink (suc a.j) k p) (l.invariant.1 n page f) (e.words n page f) e.rest,
       λ i h. e.rest i (inr (let q = line_fits l.line a.composition.now.lines w i c.loop-line-test.true h in q)) ∙ l.invariant.2 i h,
     )

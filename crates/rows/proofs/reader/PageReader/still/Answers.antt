@@ -18,6 +18,6 @@ returns-in-Some c =
     let f : Located (shape_of s.composition) n s.page.now (j - 1) (Some x) =
     subst (λ (m : ℕ). Located (shape_of s.composition) m s.page.now (j - 1) (Some x)) c.bytes.ensures.is c.in-Some.ensures in
     let large : ltb (length c.args.out.now) (s.composition.lines * width (shape_of s.composition)) ≡ false = let h = c.if-out-self.false in grind (arith, nat_tests) in
-    stilled (shape_of s.composition) n s.page.now c.args.cursor c.args.blink j c.args.out.now c.write-lines.new.out c.in-ok-check.ensures.there.0
-    (c.in-ok-check.ensures.refused (cond (ltb (length c.args.out.now) (s.composition.lines * width (shape_of s.composition))) (Some BufferTooSmall) (ends_refusal (shape_of s.composition) n s.page.now j)) ∙ (rw large refl))
-    f.0 c.write-lines.ensures.size (c.write-lines.ensures.words n s.page.now f.1) c.write-lines.ensures.rest
+    stilled (shape_of s.composition) n s.page.now c.args.cursor c.args.blink j c.args.out.now c.write_lines.new.out c.in_ok-check.ensures.there.0
+    (c.in_ok-check.ensures.refused (cond (ltb (length c.args.out.now) (s.composition.lines * width (shape_of s.composition))) (Some BufferTooSmall) (ends_refusal (shape_of s.composition) n s.page.now j)) ∙ (rw large refl))
+    f.0 c.write_lines.ensures.size (c.write_lines.ensures.words n s.page.now f.1) c.write_lines.ensures.rest

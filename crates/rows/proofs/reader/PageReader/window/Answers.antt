@@ -17,5 +17,5 @@ returns-in-Some c =
     subst (λ (n : ℕ). Located (shape_of s.composition) n s.page.now (j - 1) (Some x)) c.bytes.ensures.is c.in-Some.ensures in
     let d : x.place + x.row.take.taken - x.place ≡ x.row.take.taken = omega arith in
     subst (λ (m : ℕ). Windowed (shape_of s.composition) (burst_bytes s.burst) s.page.now j x.place (take m (drop x.place s.page.now))) (sym d)
-    (windowed (shape_of s.composition) (burst_bytes s.burst) s.page.now j x.place x.row c.in-ok-check.ensures.there.0
-    (c.in-ok-check.ensures.refused (ends_refusal (shape_of s.composition) (burst_bytes s.burst) s.page.now j)) f.0 f.1)
+    (windowed (shape_of s.composition) (burst_bytes s.burst) s.page.now j x.place x.row c.in_ok-check.ensures.there.0
+    (c.in_ok-check.ensures.refused (ends_refusal (shape_of s.composition) (burst_bytes s.burst) s.page.now j)) f.0 f.1)

@@ -12,7 +12,7 @@ returns-in-Pair c =
     record {
       state = put_joined s.columns s.len s.ring s.pairs s.field s.ended s.below c.args.p _ _ _ _ _ _ s.hidden
           (omega arith) c.column.ensures (sym (ap (stored s.ring s.pairs) e)) (one ∙ sym (ap (counted s.pairs) e))
-          c.in-force-self.ensures c.ends.ensures c.ends_screen.ensures;
+          c.in_force-self.ensures c.ends.ensures c.ends_screen.ensures;
       len = refl;
     }
 

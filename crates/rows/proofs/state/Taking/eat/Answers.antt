@@ -46,7 +46,7 @@ pub returns-in-None : goal.returns-in-None
 returns-in-None c =
     let s = c.args.self.now in
     record {
-      state = took_joined c.args.opaque c.args.n (taken_of s) c.args.b _ [] _ _ c.next-phase-phase.ensures c.in-None.ensures (omega arith) (sym (or_false s.over));
+      state = took_joined c.args.opaque c.args.n (taken_of s) c.args.b _ [] _ _ c.next_phase-phase.ensures c.in-None.ensures (omega arith) (sym (or_false s.over));
       fills = c.filled-came.ensures;
       room = omega (arith, ap (λ (o : Option Position). length (listed o)) c.in-None.is);
     }
@@ -55,7 +55,7 @@ pub returns-in-Some : goal.returns-in-Some
 returns-in-Some c =
     let s = c.args.self.now in
     record {
-      state = took_joined c.args.opaque c.args.n (taken_of s) c.args.b _ (c.in-Some.p ∷ []) _ _ c.next-phase-phase.ensures c.in-Some.ensures refl
+      state = took_joined c.args.opaque c.args.n (taken_of s) c.args.b _ (c.in-Some.p ∷ []) _ _ c.next_phase-phase.ensures c.in-Some.ensures refl
           (ap (λ (x : Bool). s.over || x) (c.stops_all.ensures ∙ sym (or_false (stops_all c.in-Some.p))));
       fills = c.in-Some.ensures;
       room = let o = open_row s c.requires.1 in let q = o.1 in omega arith;
