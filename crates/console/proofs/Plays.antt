@@ -10,7 +10,7 @@ use Rattle.frame.specs.declared.call.Answer.TheVariants.{Done, Byte, Word, Refus
 use Rattle.frame.specs.Ports.{State, new}
 use Rattle.frame.specs.History.{Moment, word_by, done, stroke_answer, call_state, call_source, call_answer, after, answers, over, source_after, words}
 use Rattle.frame.specs.Law.{Ready, Quiet, Found, clocks, Law, FrameLaw}
-use Rattle.frame.proofs.Lawful.{frame-law}
+use Rattle.frame.proofs.Lawful.{frame_law}
 use Rattle.frame.proofs.Threads.{found_over}
 use Rattle.console.specs.Answers.{answer, clock_answer, stroke_refusal}
 use Rattle.console.specs.Playing.{told, Played, Lawful}
@@ -113,10 +113,10 @@ lawful s m cs out e m₂ out₂ p =
           let f : Found m.page m.free 0 [] (over cs s m) (after h new) =
           subst (Found m.page m.free 0 [] (over cs s m)) is
           (found_over c cs s m r.composed q) in
-          let l = frame-law c h (over cs s m) m.page m.free r₂ q₂ f room in
+          let l = frame_law c h (over cs s m) m.page m.free r₂ q₂ f room in
           rw (p.state, tail) (subst (λ (x : State). Law c x m.page m.free (clocks (over cs s m)) (after (over cs s m) x) (words (answers (over cs s m) x))) (sym is) l);
       resumed = λ h es c page free is r q f room.
-          let l = frame-law c h (es ++ over cs s m) page free r q f room in
+          let l = frame_law c h (es ++ over cs s m) page free r q f room in
           let a : after (es ++ over cs s m) (after h new) ≡ e = after_append es (over cs s m) (after h new) ∙ ap (after (over cs s m)) (sym is) ∙ sym p.state in
           let b : answers (es ++ over cs s m) (after h new) ≡ answers es (after h new) ++ drop (length out) out₂ =
           answers_append es (over cs s m) (after h new)

@@ -1,6 +1,6 @@
 -- Which of a row's bytes is asked for at a clock.
 use Rattle.std.proofs.Common.{◌≡◌, ℕ, zero, suc, ◌+◌, ◌-◌, ◌<◌, ◌≤◌, Bool, true, false, ◌&&◌, ◌||◌, eqb, ltb, leb, sym, refl, ap, ◌∙◌, inl, inr, ⊎_elim, arith}
-use Rattle.std.proofs.lemmas.Bool.{cases_lt, le_leb, lt_leb}
+use Rattle.std.proofs.lemmas.Bool.{cases_lt, le-leb, lt-leb}
 use Rattle.std.proofs.lemmas.Bool.Decides.{nat_tests}
 use Rattle.frame.specs.Ports.{Bursts}
 use Rattle.frame.specs.Timing.{opens, takes, asked}
@@ -11,7 +11,7 @@ pub asked_past : (free : ℕ → Bool) (end : ℕ) (b : Bursts) (base t k : ℕ)
 asked_past free end b base t zero h = refl
 asked_past free end b base t (suc k) h =
     let i = asked_past free end b base t k (λ j lt. h j (omega arith)) in
-    let l = lt_leb t (takes free end b base k) (h k (omega arith)) in
+    let l = lt-leb t (takes free end b base k) (h k (omega arith)) in
     grind (arith, nat_tests)
 
 -- nor are bytes whose opening is still to come
@@ -21,8 +21,8 @@ asked_ahead free end b base t k zero h o = refl
 asked_ahead free end b base t k (suc m) h o =
     let i = asked_ahead free end b base t k m h o in
     ⊎_elim
-    (λ (lt : m < k). let l = lt_leb t (takes free end b base m) (h m lt) in grind (arith, nat_tests))
-    (λ (ge : k ≤ m). let u = opens_up free end b base k m ge in let l = lt_leb (opens free end b base m) t (omega arith) in grind (arith, nat_tests))
+    (λ (lt : m < k). let l = lt-leb t (takes free end b base m) (h m lt) in grind (arith, nat_tests))
+    (λ (ge : k ≤ m). let u = opens_up free end b base k m ge in let l = lt-leb (opens free end b base m) t (omega arith) in grind (arith, nat_tests))
     (cases_lt m k)
 
 -- and one that is open and not taken yet is asked for
@@ -33,8 +33,8 @@ asked_now free end b base t k (suc m) lt o h =
     (λ (l : k < m). let i = asked_now free end b base t k m l o h in grind (arith, nat_tests))
     (λ (g : m ≤ k).
     let e : m ≡ k = omega arith in
-    let x : leb (opens free end b base m) t ≡ true = rw e (le_leb _ t o) in
-    let y : leb t (takes free end b base m) ≡ true = rw e (le_leb t _ h) in
+    let x : leb (opens free end b base m) t ≡ true = rw e (le-leb _ t o) in
+    let y : leb t (takes free end b base m) ≡ true = rw e (le-leb t _ h) in
     grind (arith, nat_tests))
     (cases_lt k m)
 

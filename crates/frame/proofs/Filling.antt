@@ -1,6 +1,6 @@
 -- The row that is being taken: what its clocks keep.
 use Rattle.std.proofs.Common.{◌≡◌, ℕ, zero, suc, ◌+◌, ◌-◌, ◌*◌, ◌%◌, ◌<◌, ◌≤◌, Bool, true, false, cond, not, ◌&&◌, ◌||◌, eqb, ltb, leb, ◌⊎◌, List, [], ◌∷◌, length, drop, Some, None, Option, sym, refl, ap, ◌∙◌, inl, inr, ⊎_elim, arith, length-drop, drop-drop}
-use Rattle.std.proofs.lemmas.Bool.{cases_lt, both_ways, cases_Bool, le_leb, lt_leb}
+use Rattle.std.proofs.lemmas.Bool.{cases_lt, both_ways, cases_Bool, le-leb, lt-leb}
 use Rattle.std.proofs.lemmas.Bool.Decides.{nat_tests}
 use Rattle.source.specs.Meaning.{handed, left}
 use Rattle.video.specs.Composition.{Shape}
@@ -121,13 +121,13 @@ reads_past f n x (a ∷ xs) r h e =
 
 overdue_not : (free : ℕ → Bool) (end : ℕ) (b : Bursts) (base stop count : ℕ) → ((j : ℕ) → j < count → takes free end b base j < stop) → overdue free end b base stop count ≡ false
 overdue_not free end b base stop zero h = refl
-overdue_not free end b base stop (suc k) h = lt_leb stop _ (h k (omega arith))
+overdue_not free end b base stop (suc k) h = lt-leb stop _ (h k (omega arith))
 
 overdue_yes : (free : ℕ → Bool) (end : ℕ) (b : Bursts) (base stop k count : ℕ) → k < count → stop ≤ takes free end b base k → overdue free end b base stop count ≡ true
 overdue_yes free end b base stop k zero lt h = absurd (omega arith)
 overdue_yes free end b base stop k (suc m) lt h =
     let up = takes_up free end b base k m (omega arith) in
-    le_leb stop _ (omega arith)
+    le-leb stop _ (omega arith)
 
 -- the row that was read to its end
 pub record Read (c : Shape) (b : Bursts) (page : List ℕ) (i : ℕ) (fill : Buffer) (rest : List ℕ) : Type 0 where

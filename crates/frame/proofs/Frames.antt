@@ -1,6 +1,6 @@
 -- A frame: what each of its clocks finds.
 use Rattle.std.proofs.Common.{◌≡◌, ℕ, zero, suc, ◌+◌, ◌-◌, ◌*◌, ◌%◌, ◌<◌, ◌≤◌, Bool, true, false, cond, not, ◌&&◌, ◌||◌, eqb, ltb, leb, ◌⊎◌, List, [], ◌∷◌, Some, None, Option, sym, refl, ap, ◌∙◌, inl, inr, ⊎_elim, suc-mul, arith}
-use Rattle.std.proofs.lemmas.Bool.{cases_lt, cases_Bool, lt-ltb, le-ltb, le_leb, lt_leb, not_true, not-false}
+use Rattle.std.proofs.lemmas.Bool.{cases_lt, cases_Bool, lt-ltb, le-ltb, le-leb, lt-leb, not-true, not-false}
 use Rattle.std.proofs.lemmas.Bool.Decides.{nat_tests}
 use Rattle.source.specs.Meaning.{handed, left}
 use Rattle.video.specs.Composition.{Shape, width, line_count}
@@ -100,7 +100,7 @@ requests_it c b page free blink t k rest g = ⊎_elim inside below (cases_lt k.r
         let l = lt-ltb k.row c.r lt in
         let y = g.dark_is (omega arith) in
         ⊎_elim
-        (λ (d : k.dark ≡ true). let i : in_time c b page free k.row ≡ false = not_true _ (sym y ∙ d) in wants_dark k d ∙ sym (rw (l, i) refl))
+        (λ (d : k.dark ≡ true). let i : in_time c b page free k.row ≡ false = not-true _ (sym y ∙ d) in wants_dark k d ∙ sym (rw (l, i) refl))
         (λ (d : k.dark ≡ false).
         let i : in_time c b page free k.row ≡ true = not-false _ (sym y ∙ d) in
         sym (wants_is k g.armed d) ∙ asks c b page free k.row t k.gap k.fill rest (g.filling d lt) ∙ sym (rw (l, i) refl))
@@ -275,11 +275,11 @@ shows_row c b page free blink t q k rest g one le ok = go k.row refl
         let v : vrtc c k ≡ false = grind (arith, nat_tests) in
         ⊎_elim
         (λ (l : k.column < c.h).
-        let a = lt_leb c.h k.column l in
+        let a = lt-leb c.h k.column l in
         let x = lt-ltb k.column c.h l in
         rw (g.armed, d, v, a, x, g.blink_is, s, e) refl)
         (λ (ge : c.h ≤ k.column).
-        let a = le_leb c.h k.column ge in
+        let a = le-leb c.h k.column ge in
         let x = le-ltb k.column c.h ge in
         rw (g.armed, d, v, a, x) refl)
         (cases_lt k.column c.h)

@@ -1,6 +1,6 @@
 -- The law of a frame.
 use Rattle.std.proofs.Common.{◌≡◌, ℕ, zero, suc, ◌+◌, ◌-◌, ◌*◌, ◌<◌, ◌≤◌, Bool, true, false, cond, not, ◌&&◌, ◌||◌, eqb, ltb, leb, List, [], ◌∷◌, length, get_or, Some, None, Option, sym, refl, ap, ◌∙◌, subst, inl, inr, ⊎_elim, mul_comm, arith}
-use Rattle.std.proofs.lemmas.Bool.{cases_Bool, lt_leb, not_true, and_parts, and_from, or_parts, or_from, not_from_false, leb-false}
+use Rattle.std.proofs.lemmas.Bool.{cases_Bool, lt-leb, not-true, and_parts, and_from, or_parts, or_from, not_from_false, leb-false}
 use Rattle.refusal.specs.declared.Refusal.{Refusal}
 use Rattle.source.specs.Meaning.{Meaning}
 use Rattle.video.specs.Composition.{Shape, Proper, line_count}
@@ -14,7 +14,7 @@ use Rattle.frame.specs.Ports.{Bursts, Core, State, new, command_refusal, paramet
 use Rattle.frame.specs.Timing.{line_clocks, span, total, overdue, late, in_time, requested}
 use Rattle.frame.specs.Machine.{clock_state, clock_source, clock_word}
 use Rattle.frame.specs.History.{Moment, clocked_by, source_by, word_by, stroke_answer, done, call_state, call_source, call_answer, after, answers, words}
-use Rattle.frame.specs.Law.{at_start, Ready, Alike, QuietCall, Quiet, clock_count, clocks, Found_at, FoundBy, Found, rest_by, picture-bits, request_bit, place, Played, Equal, Law, FrameLaw}
+use Rattle.frame.specs.Law.{at_start, Ready, Alike, QuietCall, Quiet, clock_count, clocks, Found_at, FoundBy, Found, rest_by, picture_bits, request_bit, place, Played, Equal, Law, FrameLaw}
 use Rattle.frame.proofs.Takes.{takes_mono}
 use Rattle.frame.proofs.Frames.{line_clocks_is, span_is, total_is}
 use Rattle.frame.proofs.Sound.{history_proper}
@@ -137,14 +137,14 @@ late_less c b page f g i more h =
     go (suc k) e =
         let x = leb-false _ _ e in
         let y = takes_mono f g (total c) b (i * span c) more k in
-        lt_leb _ _ (omega arith)
+        lt-leb _ _ (omega arith)
 
-in-time-more : (c : Shape) (b : Bursts) (page : List ℕ) (f g : ℕ → Bool) (j : ℕ) → ((t : ℕ) → t < total c → f t ≡ true → g t ≡ true) → in_time c b page f j ≡ true → in_time c b page g j ≡ true
+in_time_more : (c : Shape) (b : Bursts) (page : List ℕ) (f g : ℕ → Bool) (j : ℕ) → ((t : ℕ) → t < total c → f t ≡ true → g t ≡ true) → in_time c b page f j ≡ true → in_time c b page g j ≡ true
 unfolding in_time
-in-time-more c b page f g zero more h = refl
-in-time-more c b page f g (suc i) more h =
+in_time_more c b page f g zero more h = refl
+in_time_more c b page f g (suc i) more h =
     let p = and_parts _ _ h in
-    and_from _ _ (in-time-more c b page f g i more p.0) (not_from_false _ (late_less c b page f g i more (not_true _ p.1)))
+    and_from _ _ (in_time_more c b page f g i more p.0) (not_from_false _ (late_less c b page f g i more (not-true _ p.1)))
 
 -- the law's words for the frame's measures
 span_product : (c : Shape) → (c.h + c.z) * c.l ≡ span c
@@ -176,10 +176,10 @@ freer_law :
     → (j : ℕ) → j ≤ c.r → in_time c s.control.bursts page free j ≡ true
     → (in_time c s₂.control.bursts page free₂ j ≡ true)
     × ((line p : ℕ) → 1 ≤ j → Played c n j line p → Played c (clocks es₂) j line p
-    → picture-bits (get_or ws (place c j line p) 0) ≡ picture-bits (get_or (words (answers es₂ s₂)) (place c j line p) 0))
+    → picture_bits (get_or ws (place c j line p) 0) ≡ picture_bits (get_or (words (answers es₂ s₂)) (place c j line p) 0))
 freer_law c s page free n e ws pr w s₂ es₂ free₂ r₂ eq more h₂ f₂ room j le ok =
     let b₂ : Bursts = s₂.control.bursts in
-    let u = in-time-more c s.control.bursts page free free₂ j (λ t lt. more t (let z = total_product c in omega arith)) ok in
+    let u = in_time_more c s.control.bursts page free free₂ j (λ t lt. more t (let z = total_product c in omega arith)) ok in
     let u₂ : in_time c b₂ page free₂ j ≡ true = rw eq.bursts u in
     let w₂ = walk c b₂ s₂.cursor page free₂ s₂.core.blink es₂ pr 0 [] s₂ (begun_at c s₂ page free₂ pr r₂) h₂ f₂ (let z = total_product c in omega arith) in (
       u₂,
@@ -209,5 +209,5 @@ law c s es page free pr r h f room =
           freer_law c s page free (clocks es) (after es s) (words (answers es s)) pr w (after h₂ new) es₂ free₂ r₂ eq more q₂ f₂ room₂ j le ok;
     }
 
-pub frame-law : FrameLaw
-frame-law c h es page free r q f room = law c (after h new) es page free (history_proper h c r.composed) r q f room
+pub frame_law : FrameLaw
+frame_law c h es page free r q f room = law c (after h new) es page free (history_proper h c r.composed) r q f room

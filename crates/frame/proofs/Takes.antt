@@ -113,9 +113,9 @@ takes_mono f g end b base more (suc k) =
     first_mono f g end _ _ more (omega arith)
 
 -- a later byte is taken later
-pub takes-next : (f : ℕ → Bool) (end : ℕ) (b : Bursts) (base k : ℕ) → takes f end b base k < takes f end b base (suc k)
+pub takes_next : (f : ℕ → Bool) (end : ℕ) (b : Bursts) (base k : ℕ) → takes f end b base k < takes f end b base (suc k)
 unfolding takes opens
-takes-next f end b base k =
+takes_next f end b base k =
     let a = first_from f end (suc (first_free f end (opens f end b base k)) + pause b (suc k)) in
     omega arith
 
@@ -123,7 +123,7 @@ pub takes_up : (f : ℕ → Bool) (end : ℕ) (b : Bursts) (base j k : ℕ) → 
 takes_up f end b base j zero h = let e : j ≡ 0 = omega arith in rw e (omega arith)
 takes_up f end b base j (suc k) h =
     ⊎_elim
-    (λ lt. let ih = takes_up f end b base j k (omega arith) in let s = takes-next f end b base k in omega arith)
+    (λ lt. let ih = takes_up f end b base j k (omega arith) in let s = takes_next f end b base k in omega arith)
     (λ (ge : suc k ≤ j). let e : j ≡ suc k = omega arith in rw e (omega arith))
     (cases_lt j (suc k))
 

@@ -21,7 +21,7 @@ use Rattle.frame.specs.Ports.{Bursts, Core, State}
 use Rattle.frame.specs.Timing.{line_clocks, span, total, in_time, requested}
 use Rattle.frame.specs.Machine.{Opening, within, frame_start, row_start, opening, idle, prepared, begins, wants, pictured, word, fed, Turn, in_line, new_line, new_row, new_frame, turn, moved, requests, ready_core, ready_source, fed_core, next_core, clock_state, clock_source, clock_word}
 use Rattle.frame.specs.History.{Moment, clocked_by, source_by, word_by, stroke_answer, done, call_state, call_source, call_answer, after, answers, words}
-use Rattle.frame.specs.Law.{at_start, Ready, Alike, QuietCall, Quiet, clock_count, clocks, Found_at, FoundBy, Found, rest_by, picture-bits, request_bit}
+use Rattle.frame.specs.Law.{at_start, Ready, Alike, QuietCall, Quiet, clock_count, clocks, Found_at, FoundBy, Found, rest_by, picture_bits, request_bit}
 use Rattle.frame.proofs.Filling.{began}
 use Rattle.frame.proofs.Frames.{Good, Says, turn_says, stepped, line_clocks_is, span_is, total_is, row_end, next, requests_it, shows_row, shows_dark, shows_retrace}
 
@@ -282,15 +282,15 @@ bits_are p false false h = (omega arith, omega arith)
 
 -- what the word of clock t shows and asks
 pub record Seen (c : Shape) (b : Bursts) (q : Option (ℕ × ℕ)) (page : List ℕ) (free : ℕ → Bool) (blink j l p t w : ℕ) : Type 0 where
-  pub shows : 1 ≤ j → j ≤ c.r → in_time c b page free j ≡ true → picture-bits w ≡ picture c b.n page q blink j l p
-  pub dark : j ≤ c.r → in_time c b page free j ≡ false → picture-bits w ≡ dark_word (line_count c l) (leb c.h p) false
-  pub retrace : (eqb j 0 || ltb c.r j) ≡ true → picture-bits w ≡ dark_word (line_count c l) (leb c.h p) true
+  pub shows : 1 ≤ j → j ≤ c.r → in_time c b page free j ≡ true → picture_bits w ≡ picture c b.n page q blink j l p
+  pub dark : j ≤ c.r → in_time c b page free j ≡ false → picture_bits w ≡ dark_word (line_count c l) (leb c.h p) false
+  pub retrace : (eqb j 0 || ltb c.r j) ≡ true → picture_bits w ≡ dark_word (line_count c l) (leb c.h p) true
   pub asks : request_bit w ≡ bit (requested c b page free j t)
 
 seen_core :
     (c : Shape) (b : Bursts) (q : Option (ℕ × ℕ)) (page : List ℕ) (free : ℕ → Bool) (blink t : ℕ) (k : Core) (rest : List ℕ) (irq : Bool)
     → Proper c → Good c b page free blink t k rest → Seen c b q page free blink k.row k.line k.column t (word c q irq k)
-unfolding picture-bits request_bit
+unfolding picture_bits request_bit
 seen_core c b q page free blink t k rest irq p g =
     let s = picture_small c q k (count_small c k.line p g.line<) in
     let e = bits_are (pictured c q k) (wants k) irq s in

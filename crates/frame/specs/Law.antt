@@ -82,8 +82,8 @@ Found page free t rest (e ∷ es) s =
     × Found page free (clock_count e.call + t) (rest_by e.call rest (call_source e.call s e.found)) es (call_state e.call s e.found)
 
 -- a clock's picture bits and its request line
-unfoldable pub picture-bits : ℕ → ℕ
-picture-bits w = w % 0x400000
+unfoldable pub picture_bits : ℕ → ℕ
+picture_bits w = w % 0x400000
 
 unfoldable pub request_bit : ℕ → ℕ
 request_bit w = w / 0x400000 % 2
@@ -113,14 +113,14 @@ pub record Law (c : Shape) (s : State) (page : List ℕ) (free : ℕ → Bool) (
   -- a row with no late row down to it shows the page's picture
   pub shows :
       (j line p : ℕ) → Played c n j line p → 1 ≤ j → j ≤ c.r → in_time c s.control.bursts page free j ≡ true
-      → picture-bits (slice_index ws (place c j line p)) ≡ picture c s.control.bursts.n page s.cursor s.core.blink j line p
+      → picture_bits (slice_index ws (place c j line p)) ≡ picture c s.control.bursts.n page s.cursor s.core.blink j line p
   -- a late row and every row below it are dark, and so is vertical retrace
   pub dark :
       (j line p : ℕ) → Played c n j line p → j ≤ c.r → in_time c s.control.bursts page free j ≡ false
-      → picture-bits (slice_index ws (place c j line p)) ≡ dark_word (line_count c line) (nat_le c.h p) false
+      → picture_bits (slice_index ws (place c j line p)) ≡ dark_word (line_count c line) (nat_le c.h p) false
   pub retrace :
       (j line p : ℕ) → Played c n j line p → (j == 0 || nat_lt c.r j) ≡ true
-      → picture-bits (slice_index ws (place c j line p)) ≡ dark_word (line_count c line) (nat_le c.h p) true
+      → picture_bits (slice_index ws (place c j line p)) ≡ dark_word (line_count c line) (nat_le c.h p) true
   -- the request line is on from the opening of a byte until it is taken, and at no other clock
   pub asks : (j line p : ℕ) → Played c n j line p → request_bit (slice_index ws (place c j line p)) ≡ bit (requested c s.control.bursts page free j (place c j line p))
   -- over a bus that is free wherever this one is in the frame, an equal console loses no row
@@ -130,7 +130,7 @@ pub record Law (c : Shape) (s : State) (page : List ℕ) (free : ℕ → Bool) (
       → (j : ℕ) → j ≤ c.r → in_time c s.control.bursts page free j ≡ true
       → (in_time c (after h₂ new).control.bursts page free₂ j ≡ true)
       × ((line p : ℕ) → 1 ≤ j → Played c n j line p → Played c (clocks es₂) j line p
-      → picture-bits (slice_index ws (place c j line p)) ≡ picture-bits (slice_index (words (answers es₂ (after h₂ new))) (place c j line p)))
+      → picture_bits (slice_index ws (place c j line p)) ≡ picture_bits (slice_index (words (answers es₂ (after h₂ new))) (place c j line p)))
 
 -- for every history from a new console that leads to the first clock of an armed frame, and every list of moments from there on
 -- that stays inside the frame

@@ -3,8 +3,8 @@ use Rattle.std.proofs.lemmas.Bool.Decides.{nat_tests}
 use Rattle.arguments.proofs.Numerals.{figure_more, figure_done}
 use Rattle.arguments.proofs.numbers.figure.Goals as goal
 
-pub returns-in-err-number : goal.returns-in-err-number
-returns-in-err-number c =
+pub returns-in_err-number : goal.returns-in_err-number
+returns-in_err-number c =
     let m = figure_more c.args.most c.loop-c.number c.args.text.now c.loop-c.c-index c.loop-c-test.true in
     let i = c.loop-c.invariant in grind (arith, nat_tests)
 

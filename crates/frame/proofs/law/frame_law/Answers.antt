@@ -1,5 +1,5 @@
-use Rattle.frame.proofs.Lawful.{frame-law}
+use Rattle.frame.proofs.Lawful.{frame_law}
 use Rattle.frame.proofs.law.frame_law.Goals as goal
 
 pub returns : goal.returns
-returns c = frame-law
+returns c = frame_law

@@ -11,5 +11,5 @@ returns c =
     let s : state_of c.command.new.self ≡ commanded new 0x00 = c.command.ensures.state ∙ ap (λ (s : State). commanded s 0x00) c.new-console.ensures in (
       search rules,
       accepted_first (allowed c.args.parameters.first)
-          (c.in-ok-parameter.ensures.answer ∙ ap (λ (s : State). answer (parameter_refusal s c.args.parameters.first)) s),
+          (c.in_ok-parameter.ensures.answer ∙ ap (λ (s : State). answer (parameter_refusal s c.args.parameters.first)) s),
     )

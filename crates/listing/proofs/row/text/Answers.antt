@@ -9,7 +9,7 @@ loop-column-init c = columns_start _ c.args.composition.now.columns (vec_items c
 pub loop-column-preserved : goal.loop-column-preserved
 loop-column-preserved c =
     columns_more _ c.args.composition.now.columns c.loop-column.column (vec_items c.loop-column.text) (vec_items c.push.new.self) c.byte.result
-    c.loop-column-test.true (c.byte.ensures ∙ ap glyph_byte c.glyph.ensures) c.in-ok-push.ensures.items
+    c.loop-column-test.true (c.byte.ensures ∙ ap glyph_byte c.glyph.ensures) c.in_ok-push.ensures.items
     ∙ c.loop-column.invariant
 
 pub returns : goal.returns

@@ -4,8 +4,8 @@ use Rattle.listing.proofs.row.word_lines.Goals as goal
 
 pub loop-word-preserved : goal.loop-word-preserved
 loop-word-preserved c =
-    words_more c.args.words.now c.loop-word.word-index (vec_items c.loop-word.lines) (vec_items c.extend-from-slice.new.self) c.word-line.result
-    c.loop-word-test.true c.word-line.ensures c.in-ok-extend-from-slice.ensures.items
+    words_more c.args.words.now c.loop-word.word-index (vec_items c.loop-word.lines) (vec_items c.extend_from_slice.new.self) c.word_line.result
+    c.loop-word-test.true c.word_line.ensures c.in_ok-extend_from_slice.ensures.items
     ∙ c.loop-word.invariant
 
 pub returns : goal.returns

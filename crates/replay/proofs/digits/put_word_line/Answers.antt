@@ -7,7 +7,7 @@ pub returns : goal.returns
 returns c =
     record {
       items = three (vec_items c.args.out.now) (four (c.args.w / 0x10000)) (four (c.args.w % 0x10000)) (10 ∷ [])
-          c.put-four.ensures.items c.put-four-2.ensures.items c.push-reserved.ensures.items;
+          c.put_four.ensures.items c.put_four-2.ensures.items c.push_reserved.ensures.items;
       len = omega arith;
       cap = search rules;
     }

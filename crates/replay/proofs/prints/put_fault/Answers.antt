@@ -13,10 +13,10 @@ unfolding fault_line
 returns c =
     record {
       items = six (vec_items c.args.out.now) (two 0xFF) (two (layer c.args.fault)) (two (number_of c.args.fault)) (four c.args.number) (two (column_of c.args.fault)) (10 ∷ [])
-          c.put-two.ensures.items
-          (c.put-two-2.ensures.items ∙ at _ c.layer.ensures)
-          (c.put-two-3.ensures.items ∙ at _ c.number.ensures)
-          c.put-four.ensures.items
-          (c.put-two-4.ensures.items ∙ at _ c.column.ensures)
-          c.push-reserved.ensures.items;
+          c.put_two.ensures.items
+          (c.put_two-2.ensures.items ∙ at _ c.layer.ensures)
+          (c.put_two-3.ensures.items ∙ at _ c.number.ensures)
+          c.put_four.ensures.items
+          (c.put_two-4.ensures.items ∙ at _ c.column.ensures)
+          c.push_reserved.ensures.items;
     }

@@ -28,19 +28,19 @@ loop-i-preserved c =
     let g = c.in-Some.ensures.row i c.loop-i.invariant.0 (c.blank-idle.ensures ∙ ap (blank (shape_of c.args.composition.now)) one) in
     (rw one g.0, c.in-Some.ensures.fits)
 
-pub returns-in-Some-next-row : goal.returns-in-Some-next-row
-returns-in-Some-next-row c =
+pub returns-in-Some-next_row : goal.returns-in-Some-next_row
+returns-in-Some-next_row c =
     let j = c.args.j in
     let i : c.loop-i.i ≡ j = omega arith in
     let one : j + 1 ≡ suc j = omega arith in
     let h : Behind (shape_of c.args.composition.now) c.args.n c.args.page.now j c.loop-i.at c.loop-i.above = rw (← i) c.loop-i.invariant.0 in
-    let g = c.in-Some-next-row.ensures.row j h (c.blank-idle-2.ensures ∙ ap (blank (shape_of c.args.composition.now)) one) in
-    (g.0.whole, record { at = g.2; taken = g.3; within = c.in-Some-next-row.ensures.fits; columns = g.1 })
+    let g = c.in-Some-next_row.ensures.row j h (c.blank-idle-2.ensures ∙ ap (blank (shape_of c.args.composition.now)) one) in
+    (g.0.whole, record { at = g.2; taken = g.3; within = c.in-Some-next_row.ensures.fits; columns = g.1 })
 
-pub returns-in-None-next-row : goal.returns-in-None-next-row
-returns-in-None-next-row c =
+pub returns-in-None-next_row : goal.returns-in-None-next_row
+returns-in-None-next_row c =
     let j = c.args.j in
     let i : c.loop-i.i ≡ j = omega arith in
     let one : j + 1 ≡ suc j = omega arith in
     let h : Behind (shape_of c.args.composition.now) c.args.n c.args.page.now j c.loop-i.at c.loop-i.above = rw (← i) c.loop-i.invariant.0 in
-    c.in-None-next-row.ensures.row j h (c.blank-idle-2.ensures ∙ ap (blank (shape_of c.args.composition.now)) one)
+    c.in-None-next_row.ensures.row j h (c.blank-idle-2.ensures ∙ ap (blank (shape_of c.args.composition.now)) one)

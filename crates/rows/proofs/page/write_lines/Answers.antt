@@ -4,8 +4,8 @@ use Rattle.rows.specs.Page.{picture}
 use Rattle.rows.proofs.Writes.{line_more, line_fits}
 use Rattle.rows.proofs.page.write_lines.Goals as goal
 
-pub write-line-requires : goal.write-line-requires
-write-line-requires c =
+pub write_line-requires : goal.write_line-requires
+write_line-requires c =
     let z = c.loop-line.invariant.0 in
     line_fits c.loop-line.line c.args.composition.now.lines (width (shape_of c.args.composition.now)) _ c.loop-line-test.true (omega (arith, c.requires))
 

@@ -5,4 +5,4 @@ use Rattle.arguments.proofs.word.Word.read.Goals as goal
 
 pub returns : goal.returns
 returns c =
-    c.other.ensures ∙ (ap other_word c.as-bytes.ensures.value ∙ sym (no_option c.args.text.now (search rules) (search rules) (search rules) (search rules) (search rules) (search rules)))
+    c.other.ensures ∙ (ap other_word c.as_bytes.ensures.value ∙ sym (no_option c.args.text.now (search rules) (search rules) (search rules) (search rules) (search rules) (search rules)))

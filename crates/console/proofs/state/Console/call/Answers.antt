@@ -39,7 +39,7 @@ unfolding call_answer call_state call_source
 returns-in-Read g c =
     let s = state_of c.args.self.now in
     let m = g.S.Source.means c.args.source.now in
-    let x = called c.args.call Read s (state_of c.read-parameter.new.self) m m _ c.in-Read.is (ap Byte c.read-parameter.ensures.byte) c.read-parameter.ensures.state refl in
+    let x = called c.args.call Read s (state_of c.read_parameter.new.self) m m _ c.in-Read.is (ap Byte c.read_parameter.ensures.byte) c.read_parameter.ensures.state refl in
     record { answer = x.0; state = x.1; source = x.2 }
 
 pub returns-in-Stroke : goal.returns-in-Stroke

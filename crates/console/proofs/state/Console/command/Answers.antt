@@ -22,9 +22,9 @@ returns c =
     let missed : c.match-this.missed ≡ awaits_write c.args.self.now.pending =
     elim c.match-this.branch [
       | in-Nothing-default w ↦ w.missed-is ∙ (search rules)
-      | in-default-2 w ↦ w.missed-is ∙ outstanding c.args.self.now.pending w.in-default-2.not-Nothing-0 w.in-default-2.not-PenColumn-0 w.in-default-2.not-PenRow-0
+      | in_default-2 w ↦ w.missed-is ∙ outstanding c.args.self.now.pending w.in_default-2.not-Nothing-0 w.in_default-2.not-PenColumn-0 w.in_default-2.not-PenRow-0
     ] in
     record {
-      answer = rw (← c.if-not-is-command.ensures) refl;
-      state = rw (← c.if-not-is-command.ensures) (c.obey.ensures ∙ (rw missed refl));
+      answer = rw (← c.if-not-is_command.ensures) refl;
+      state = rw (← c.if-not-is_command.ensures) (c.obey.ensures ∙ (rw missed refl));
     }

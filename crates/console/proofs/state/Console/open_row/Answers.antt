@@ -10,7 +10,7 @@ pub returns : goal.returns
 returns c =
     let s = c.args.self.now in
     record {
-      state = row_joined (shape_of c.args.composition.now) (state_of s) (core_of c.start-row.new.self) c.underrun.result c.underrun.ensures
-          (c.start-row.ensures.core s.ve (bursts_of s.burst));
+      state = row_joined (shape_of c.args.composition.now) (state_of s) (core_of c.start_row.new.self) c.underrun.result c.underrun.ensures
+          (c.start_row.ensures.core s.ve (bursts_of s.burst));
       same = refl;
     }

@@ -2,7 +2,7 @@
 use Rattle.std.proofs.Common.{◌≡◌, List, drop, vec_items, refl, subst, arith, rules}
 use Rattle.frame.specs.declared.call.Answer.{Answer}
 use Rattle.frame.proofs.Harmless.{harmless}
-use Rattle.frame.proofs.Lawful.{frame-law}
+use Rattle.frame.proofs.Lawful.{frame_law}
 use Rattle.console.specs.Model.{state_of}
 use Rattle.console.specs.Playing.{Played}
 use Rattle.console.proofs.Plays.{On, on_more, on_end, next_call, no_call, lawful}
@@ -10,7 +10,7 @@ use Rattle.console.proofs.state.Console.play.Goals as goal
 
 pub loop-call-init : goal.loop-call-init
 loop-call-init g c =
-    (record { state = refl; source = refl; all = refl }, (let h = c.in-ok-reserve.ensures.ok in omega arith))
+    (record { state = refl; source = refl; all = refl }, (let h = c.in_ok-reserve.ensures.ok in omega arith))
 
 pub loop-call-preserved : goal.loop-call-preserved
 loop-call-preserved g c =
@@ -32,7 +32,7 @@ returns g c =
     subst (λ (out : List Answer). Played s m c.args.calls.now out (state_of c.loop-call.self) (means c.loop-call.source) (vec_items c.loop-call.answers)) same
     (on_end _ (state_of c.loop-call.self) (means c.loop-call.source) (vec_items c.loop-call.answers) c.args.calls.now s m (vec_items c.reserve.new.self)
     (no_call c.args.calls.now c.loop-call.call-index c.loop-call-test.false) c.loop-call.invariant.0) in
-    record { played = p; law = lawful s m c.args.calls.now (vec_items c.args.answers.now) (state_of c.loop-call.self) (means c.loop-call.source) (vec_items c.loop-call.answers) p; harmless = harmless; frames = frame-law }
+    record { played = p; law = lawful s m c.args.calls.now (vec_items c.args.answers.now) (state_of c.loop-call.self) (means c.loop-call.source) (vec_items c.loop-call.answers) p; harmless = harmless; frames = frame_law }
 
-pub returns-in-err-reserve : goal.returns-in-err-reserve
-returns-in-err-reserve g c = record { played = search rules; law = search rules; harmless = harmless; frames = frame-law }
+pub returns-in_err-reserve : goal.returns-in_err-reserve
+returns-in_err-reserve g c = record { played = search rules; law = search rules; harmless = harmless; frames = frame_law }

@@ -8,11 +8,11 @@ use Rattle.replay.proofs.machine.Machine.add.Goals as goal
 
 pub loop-k-preserved : goal.loop-k-preserved
 loop-k-preserved c = (
-  bytes_more c.args.n c.loop-k.k c.args.line.now (vec_items c.loop-k.self.page) (vec_items c.push-reserved.new.self) c.byte-at-b.result c.loop-k-test.true c.byte-at-b.ensures c.push-reserved.ensures.items ∙ c.loop-k.invariant.0,
+  bytes_more c.args.n c.loop-k.k c.args.line.now (vec_items c.loop-k.self.page) (vec_items c.push_reserved.new.self) c.byte_at-b.result c.loop-k-test.true c.byte_at-b.ensures c.push_reserved.ensures.items ∙ c.loop-k.invariant.0,
   c.loop-k.invariant.1,
   c.loop-k.invariant.2,
   c.loop-k.invariant.3,
-  omega (arith, c.loop-k.invariant.4, c.push-reserved.ensures.len),
+  omega (arith, c.loop-k.invariant.4, c.push_reserved.ensures.len),
 )
 
 pub returns : goal.returns

@@ -6,22 +6,22 @@ use Rattle.replay.specs.Model.{desk_of}
 use Rattle.replay.proofs.Desks.{desk_same, desk_played}
 use Rattle.replay.proofs.machine.Machine.play.Goals as goal
 
-pub returns-in-err-load : goal.returns-in-err-load
-returns-in-err-load c =
+pub returns-in_err-load : goal.returns-in_err-load
+returns-in_err-load c =
     let p = err_from_is_err_and c.from-residual.result c.from-residual.ensures.1 in
-    rw (p.1, p.2) (c.in-err-load.ensures.bus, c.load.ensures.same)
+    rw (p.1, p.2) (c.in_err-load.ensures.bus, c.load.ensures.same)
 
-pub invariant-of-self : goal.invariant-of-self
-invariant-of-self c = (c.load.new.self.room, (c.load.new.self.short, tt))
+pub invariant_of-self : goal.invariant_of-self
+invariant_of-self c = (c.load.new.self.room, (c.load.new.self.short, tt))
 
-pub returns-in-err-play : goal.returns-in-err-play
-returns-in-err-play c =
-    let p = err_from_is_err_and c.from-residual-in-err-play.result c.from-residual-in-err-play.ensures.1 in
-    let f = c.in-err-play.ensures.played in
+pub returns-in_err-play : goal.returns-in_err-play
+returns-in_err-play c =
+    let p = err_from_is_err_and c.from-residual-in_err-play.result c.from-residual-in_err-play.ensures.1 in
+    let f = c.in_err-play.ensures.played in
     rw (p.1, p.2)
     (f.0, desk_same _ _ (free_bus c.load.new.self.bus) (free_bus c.play.new.source) _ _ _ (ap state_of f.1) (ap free_bus f.2) ∙ c.load.ensures.same)
 
 pub returns : goal.returns
 returns c =
     desk_played (desk_of c.args.self.now) (desk_of c.load.new.self) c.args.calls.now (free_bus c.load.new.self.bus) (vec_items c.clear.new.self) _ _ _
-    c.load.ensures.same c.in-ok-load.ensures.bus c.clear.ensures.items c.in-ok-play.ensures.played
+    c.load.ensures.same c.in_ok-load.ensures.bus c.clear.ensures.items c.in_ok-play.ensures.played

@@ -10,9 +10,9 @@ loop-byte-init c = fed_none (stage_of c.args.self.now) (held_of c.args.self.now)
 pub loop-byte-preserved : goal.loop-byte-preserved
 loop-byte-preserved c =
     let l = c.loop-byte in
-    fed_more (stage_of c.args.self.now) (stage_of l.self) (stage_of c.feed-byte.new.self) (held_of c.args.self.now) (held_of l.self) (held_of c.feed-byte.new.self)
-    (vec_items c.args.out.now) (vec_items l.out) (vec_items c.feed-byte.new.out) c.args.part.now l.byte-index
-    c.loop-byte-test.true c.in-ok-feed-byte.ensures l.invariant
+    fed_more (stage_of c.args.self.now) (stage_of l.self) (stage_of c.feed_byte.new.self) (held_of c.args.self.now) (held_of l.self) (held_of c.feed_byte.new.self)
+    (vec_items c.args.out.now) (vec_items l.out) (vec_items c.feed_byte.new.out) c.args.part.now l.byte-index
+    c.loop-byte-test.true c.in_ok-feed_byte.ensures l.invariant
 
 pub returns : goal.returns
 returns c =
@@ -20,13 +20,13 @@ returns c =
     fed_all (stage_of c.args.self.now) (stage_of l.self) (held_of c.args.self.now) (held_of l.self) (vec_items c.args.out.now) (vec_items l.out) c.args.part.now l.byte-index
     c.loop-byte-test.false l.invariant
 
-pub returns-in-err-feed-byte : goal.returns-in-err-feed-byte
-returns-in-err-feed-byte c =
+pub returns-in_err-feed_byte : goal.returns-in_err-feed_byte
+returns-in_err-feed_byte c =
     let l = c.loop-byte in
     let p = err_from_is_err_and c.from-residual.result c.from-residual.ensures.1 in
-    let f = c.in-err-feed-byte.ensures in
+    let f = c.in_err-feed_byte.ensures in
     rw (p.1, p.2) (
       f.0,
-      fed_kept (stage_of c.args.self.now) (stage_of l.self) (stage_of c.feed-byte.new.self) (held_of c.args.self.now) (held_of l.self) (held_of c.feed-byte.new.self)
-          (vec_items c.args.out.now) (vec_items l.out) (vec_items c.feed-byte.new.out) c.args.part.now l.byte-index f.1.0 f.1.1 f.1.2 l.invariant,
+      fed_kept (stage_of c.args.self.now) (stage_of l.self) (stage_of c.feed_byte.new.self) (held_of c.args.self.now) (held_of l.self) (held_of c.feed_byte.new.self)
+          (vec_items c.args.out.now) (vec_items l.out) (vec_items c.feed_byte.new.out) c.args.part.now l.byte-index f.1.0 f.1.1 f.1.2 l.invariant,
     )

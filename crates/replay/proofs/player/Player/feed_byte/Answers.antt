@@ -4,15 +4,15 @@ use Rattle.replay.specs.Model.{stage_of, held_of}
 use Rattle.replay.proofs.Feeding.{fed_line, fed_byte, fed_behind}
 use Rattle.replay.proofs.player.Player.feed_byte.Goals as goal
 
-pub returns-in-err-play-line : goal.returns-in-err-play-line
-returns-in-err-play-line c =
+pub returns-in_err-play_line : goal.returns-in_err-play_line
+returns-in_err-play_line c =
     let p = err_from_is_err_and c.from-residual.result c.from-residual.ensures.1 in
-    rw (p.1, p.2) c.in-err-play-line.ensures
+    rw (p.1, p.2) c.in_err-play_line.ensures
 
 pub returns-then-byte-eq10 : goal.returns-then-byte-eq10
 returns-then-byte-eq10 c =
-    let f = c.in-ok-play-line.ensures in
-    fed_line (stage_of c.args.self.now) (stage_of c.play-line.new.self) (held_of c.args.self.now) (vec_items c.clear.new.self) (vec_items c.args.out.now) (vec_items c.play-line.new.out) c.args.byte
+    let f = c.in_ok-play_line.ensures in
+    fed_line (stage_of c.args.self.now) (stage_of c.play_line.new.self) (held_of c.args.self.now) (vec_items c.clear.new.self) (vec_items c.args.out.now) (vec_items c.play_line.new.out) c.args.byte
     c.if-byte-eq10.true f.0 f.1 c.clear.ensures.items
 
 pub returns-then-len-gt-LONGEST-LINE : goal.returns-then-len-gt-LONGEST-LINE
@@ -22,4 +22,4 @@ returns-then-len-gt-LONGEST-LINE c =
 
 pub returns : goal.returns
 returns c =
-    fed_byte (stage_of c.args.self.now) (held_of c.args.self.now) (vec_items c.push-reserved.new.self) (vec_items c.args.out.now) c.args.byte c.if-byte-eq10.false c.push-reserved.ensures.items
+    fed_byte (stage_of c.args.self.now) (held_of c.args.self.now) (vec_items c.push_reserved.new.self) (vec_items c.args.out.now) c.args.byte c.if-byte-eq10.false c.push_reserved.ensures.items

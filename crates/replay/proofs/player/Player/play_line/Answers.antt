@@ -11,21 +11,21 @@ returns-then-self-ge-LAST-LINE c = (
   next_over (stage_of c.args.self.now) (held_of c.args.self.now) c.if-self-ge-LAST-LINE.true,
 )
 
-pub invariant-of-self : goal.invariant-of-self
-invariant-of-self c = (c.args.self.now.room, (c.args.self.now.short, (c.args.self.now.ticks, tt)))
+pub invariant_of-self : goal.invariant_of-self
+invariant_of-self c = (c.args.self.now.room, (c.args.self.now.short, (c.args.self.now.ticks, tt)))
 
-pub invariant-of-self-2 : goal.invariant-of-self-2
-invariant-of-self-2 c = (c.args.self.now.room, (c.args.self.now.short, (c.args.self.now.ticks, tt)))
+pub invariant_of-self-2 : goal.invariant_of-self-2
+invariant_of-self-2 c = (c.args.self.now.room, (c.args.self.now.short, (c.args.self.now.ticks, tt)))
 
-pub returns-in-err-request : goal.returns-in-err-request
-returns-in-err-request c =
-    let p = err_from_is_err_and c.from-residual-in-err-request.result c.from-residual-in-err-request.ensures.1 in
-    let f = c.in-err-request.ensures.done in
+pub returns-in_err-request : goal.returns-in_err-request
+returns-in_err-request c =
+    let p = err_from_is_err_and c.from-residual-in_err-request.result c.from-residual-in_err-request.ensures.1 in
+    let f = c.in_err-request.ensures.done in
     rw (p.1, p.2) (f.0, (ap (λ (d : Desk). stage d c.args.self.now.number) f.1, refl, c.reserve.ensures.items))
 
 pub returns : goal.returns
 returns c =
-    line_played (stage_of c.args.self.now) (held_of c.args.self.now) c.as-slice.result.now (vec_items c.args.out.now) c.in-ok-request.request
+    line_played (stage_of c.args.self.now) (held_of c.args.self.now) c.as_slice.result.now (vec_items c.args.out.now) c.in_ok-request.request
     (desk_of c.follow.new.self) (vec_items c.follow.new.self.answers) c.answers.result.now
-    c.if-self-ge-LAST-LINE.false c.as-slice.ensures.value c.in-ok-request.ensures.done c.answers.ensures
-    c.reserve.ensures.items c.put-answers-to-verdict.ensures.items c.put-answers-to-verdict.ensures.fault c.put-verdict.ensures.items
+    c.if-self-ge-LAST-LINE.false c.as_slice.ensures.value c.in_ok-request.ensures.done c.answers.ensures
+    c.reserve.ensures.items c.put_answers_to-verdict.ensures.items c.put_answers_to-verdict.ensures.fault c.put_verdict.ensures.items

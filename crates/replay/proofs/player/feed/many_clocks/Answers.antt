@@ -6,9 +6,9 @@ use Rattle.replay.proofs.player.feed.many_clocks.Goals as goal
 
 pub loop-i-preserved : goal.loop-i-preserved
 loop-i-preserved c = (
-  c.push-reserved.ensures.items ∙ ap (λ (m : List Call). m ++ Clock ∷ []) c.loop-i.invariant.0 ∙ replicate_more c.loop-i.i Clock,
-  omega (arith, c.loop-i.invariant.1, c.push-reserved.ensures.len),
-  omega (arith, c.loop-i.invariant.2, c.push-reserved.ensures.capacity),
+  c.push_reserved.ensures.items ∙ ap (λ (m : List Call). m ++ Clock ∷ []) c.loop-i.invariant.0 ∙ replicate_more c.loop-i.i Clock,
+  omega (arith, c.loop-i.invariant.1, c.push_reserved.ensures.len),
+  omega (arith, c.loop-i.invariant.2, c.push_reserved.ensures.capacity),
 )
 
 pub returns : goal.returns

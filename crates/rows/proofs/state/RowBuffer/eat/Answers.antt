@@ -5,11 +5,11 @@ use Rattle.rows.specs.Model.{taken_of, shown_of}
 use Rattle.rows.proofs.Steps.{eat_joined}
 use Rattle.rows.proofs.state.RowBuffer.eat.Goals as goal
 
-pub returns-in-default : goal.returns-in-default
+pub returns-in_default : goal.returns-in_default
 unfolding puts
-returns-in-default c =
+returns-in_default c =
     let s = c.args.self.now in
-    eat_joined c.args.opaque c.args.n (taken_of s.take) (shown_of s.show) c.args.b _ _ [] c.eat.ensures.state c.in-default.ensures.fills refl
+    eat_joined c.args.opaque c.args.n (taken_of s.take) (shown_of s.show) c.args.b _ _ [] c.eat.ensures.state c.in_default.ensures.fills refl
 
 pub returns-in-Some : goal.returns-in-Some
 unfolding puts

@@ -16,12 +16,12 @@ returns-in-Pair c =
       len = refl;
     }
 
-pub returns-in-default : goal.returns-in-default
-returns-in-default c =
+pub returns-in_default : goal.returns-in_default
+returns-in_default c =
     let s = c.args.self.now in
-    let same = stored_rest s.ring s.pairs c.args.p c.in-default.not-Pair in
+    let same = stored_rest s.ring s.pairs c.args.p c.in_default.not-Pair in
     record {
       state = put_joined s.columns s.len s.ring s.pairs s.field s.ended s.below c.args.p _ _ _ _ _ _ s.hidden
-          (omega arith) c.column.ensures same.0 same.1 c.in-force-self.ensures c.ends.ensures c.ends_screen.ensures;
+          (omega arith) c.column.ensures same.0 same.1 c.in_force-self.ensures c.ends.ensures c.ends_screen.ensures;
       len = refl;
     }

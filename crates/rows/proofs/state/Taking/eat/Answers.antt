@@ -26,21 +26,21 @@ bound f last filled ph ph₂ b room rest taken came d e₁ e₂ h l =
     let g : length came ≡ length (fills f ph b) = ap length e₂ in
     omega arith
 
-pub invariant-of-self : goal.invariant-of-self
-invariant-of-self c =
+pub invariant_of-self : goal.invariant_of-self
+invariant_of-self c =
     let s = c.args.self.now in
     let o = open_row s c.requires.1 in
-    (bound c.args.opaque (eqb ((s.taken + 1) % c.args.n) 0) (leb s.room 1) s.phase _ c.args.b s.room s.room s.taken [] o.0 c.next-phase-phase.ensures c.in-None.ensures s.few (omega arith), tt)
+    record { few = bound c.args.opaque (eqb ((s.taken + 1) % c.args.n) 0) (leb s.room 1) s.phase _ c.args.b s.room s.room s.taken [] o.0 c.next_phase-phase.ensures c.in-None.ensures s.few (omega arith) }
 
-pub overflow-sub-self : goal.overflow-sub-self
-overflow-sub-self c = let o = open_row c.args.self.now c.requires.1 in o.1
+pub overflow_sub-self : goal.overflow_sub-self
+overflow_sub-self c = let o = open_row c.args.self.now c.requires.1 in o.1
 
-pub invariant-of-self-in-Some : goal.invariant-of-self-in-Some
-invariant-of-self-in-Some c =
+pub invariant_of-self-in-Some : goal.invariant_of-self-in-Some
+invariant_of-self-in-Some c =
     let s = c.args.self.now in
     let o = open_row s c.requires.1 in
     let r = o.1 in
-    (bound c.args.opaque (eqb ((s.taken + 1) % c.args.n) 0) (leb s.room 1) s.phase _ c.args.b s.room (s.room - 1) s.taken (c.in-Some.p ∷ []) o.0 c.next-phase-phase.ensures c.in-Some.ensures s.few (omega arith), tt)
+    record { few = bound c.args.opaque (eqb ((s.taken + 1) % c.args.n) 0) (leb s.room 1) s.phase _ c.args.b s.room (s.room - 1) s.taken (c.in-Some.p ∷ []) o.0 c.next_phase-phase.ensures c.in-Some.ensures s.few (omega arith) }
 
 pub returns-in-None : goal.returns-in-None
 returns-in-None c =
