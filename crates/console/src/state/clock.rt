@@ -48,7 +48,7 @@ impl Console {
     fn open_frame<S: Source>(&mut self, composition: &Composition, source: &mut S)
         ensures state { state_of self.new ≡ frame_opened (shape_of composition.now) (state_of self.old) }
         ensures same { self.new.composition ≡ self.old.composition }
-        ensures source { means source.new ≡ begins frame_start self.old.ve (means source.old) }
+        ensures source { S.means source.new ≡ begins frame_start self.old.ve (S.means source.old) }
     {
         self.raster.start_frame(composition, self.ve, self.burst);
         if self.ve {
@@ -69,7 +69,7 @@ impl Console {
     fn prepare<S: Source>(&mut self, composition: &Composition, source: &mut S)
         ensures state { state_of self.new ≡ readied (shape_of composition.now) (state_of self.old) }
         ensures same { self.new.composition ≡ self.old.composition }
-        ensures source { means source.new ≡ ready_source (state_of self.old) (means source.old) }
+        ensures source { S.means source.new ≡ ready_source (state_of self.old) (S.means source.old) }
     {
         self.request_interrupt(composition);
         if self.raster.begins() {
@@ -104,8 +104,8 @@ impl Console {
     // One clock over a source.
     pub fn clock<S: Source>(&mut self, source: &mut S) -> Result<u32, Refusal>
         ensures answer { result ≡ clock_answer (state_of self.old).shape (state_of self.old) }
-        ensures state { state_of self.new ≡ clocked_by (state_of self.old).shape (state_of self.old) (means source.old) }
-        ensures source { means source.new ≡ source_by (state_of self.old).shape (state_of self.old) (means source.old) }
+        ensures state { state_of self.new ≡ clocked_by (state_of self.old).shape (state_of self.old) (S.means source.old) }
+        ensures source { S.means source.new ≡ source_by (state_of self.old).shape (state_of self.old) (S.means source.old) }
     {
         let Some(composition) = self.composition else {
             return Err(Refusal::NoComposition);

@@ -24,8 +24,8 @@ impl Console {
     // One call over a source.
     pub fn call<S: Source>(&mut self, source: &mut S, call: Call) -> Answer
         ensures answer { result ≡ call_answer call (state_of self.old) }
-        ensures state { state_of self.new ≡ call_state call (state_of self.old) (means source.old) }
-        ensures source { means source.new ≡ call_source call (state_of self.old) (means source.old) }
+        ensures state { state_of self.new ≡ call_state call (state_of self.old) (S.means source.old) }
+        ensures source { S.means source.new ≡ call_source call (state_of self.old) (S.means source.old) }
     {
         match call {
             Call::Command(byte) => told(self.command(byte)),
@@ -45,8 +45,8 @@ impl Console {
         requires { vec_len answers.old < vec_capacity answers.old }
         ensures items { answers.new.items ≡ answers.old.items ++ (call_answer call (state_of self.old) ∷ []) }
         ensures room { (vec_len answers.new ≡ vec_len answers.old + 1) × (vec_capacity answers.new ≡ vec_capacity answers.old) }
-        ensures state { state_of self.new ≡ call_state call (state_of self.old) (means source.old) }
-        ensures source { means source.new ≡ call_source call (state_of self.old) (means source.old) }
+        ensures state { state_of self.new ≡ call_state call (state_of self.old) (S.means source.old) }
+        ensures source { S.means source.new ≡ call_source call (state_of self.old) (S.means source.old) }
     {
         let answer = self.call(source, call);
         answers.push_reserved(answer);
@@ -61,12 +61,12 @@ impl Console {
         answers: &mut Vec<Answer>,
     ) -> Result<(), Refusal>
         ensures played { MatchResult result
-            (λ _. Played (state_of self.old) (means source.old) calls.now answers.old.items
-            (state_of self.new) (means source.new) answers.new.items)
+            (λ _. Played (state_of self.old) (S.means source.old) calls.now answers.old.items
+            (state_of self.new) (S.means source.new) answers.new.items)
             (λ e. (e ≡ OutOfMemory) × (self.new ≡ self.old) × (source.new ≡ source.old)
             × (answers.new.items ≡ answers.old.items)) }
         ensures law { MatchResult result
-            (λ _. Lawful (state_of self.old) (means source.old) calls.now answers.old.items
+            (λ _. Lawful (state_of self.old) (S.means source.old) calls.now answers.old.items
             (state_of self.new) answers.new.items)
             (λ _. Unit {0}) }
         ensures harmless { Harmless }

@@ -4,7 +4,7 @@ use Rattle.frame.specs.declared.pending.Pending.{Pending}
 use Rattle.frame.specs.declared.pending.Pending.TheVariants.{Nothing, Reset1, Reset2, Reset3, Reset4, CursorColumn, CursorRow, PenColumn, PenRow}
 use Rattle.frame.specs.Ports.{awaits_write}
 use Rattle.console.proofs.state.Console.command.Goals as goal
-use Rattle.console.proofs.state.Console.command.Goals.{in-Nothing-default, in-default-2}
+use Rattle.console.proofs.state.Console.command.Goals.{in-Nothing-default, in_default-2}
 
 outstanding : (p : Pending) → (p ≡ Nothing → ⊥) → (p ≡ PenColumn → ⊥) → (p ≡ PenRow → ⊥) → true ≡ awaits_write p
 outstanding Nothing a b c = absurd (a refl)
