@@ -25,7 +25,7 @@ returns c =
 pub returns-in_err-put_answer : goal.returns-in_err-put_answer
 returns-in_err-put_answer c =
     let l = c.loop-answer in
-    let p = err_from_is_err_and c.from-residual.result c.from-residual.ensures.1 in
+    let p = err_from_is_err_and c.from_residual.result c.from_residual.ensures.1 in
     let f = c.in_err-put_answer.ensures.fault in
     record {
       fault = rw (p.1, p.2) (outcome_stop c.args.answers.now l.answer-index _ _ c.loop-answer-test.true f ∙ l.invariant.1);

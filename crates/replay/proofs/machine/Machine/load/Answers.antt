@@ -7,7 +7,7 @@ use Rattle.replay.proofs.machine.Machine.load.Goals as goal
 
 pub returns-in_err-make : goal.returns-in_err-make
 returns-in_err-make c =
-    let p = err_from_is_err_and c.from-residual.result c.from-residual.ensures.1 in
+    let p = err_from_is_err_and c.from_residual.result c.from_residual.ensures.1 in
     let short : length c.as_slice.result.now ≤ 16384 = (let a = c.as_slice.ensures.len in let b = c.args.self.now.short in omega arith) in
     record {
       bus = rw (p.1, p.2) (c.in_err-make.ensures.0 ∙ memory (length c.as_slice.result.now) short);

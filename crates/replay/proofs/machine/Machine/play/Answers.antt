@@ -8,7 +8,7 @@ use Rattle.replay.proofs.machine.Machine.play.Goals as goal
 
 pub returns-in_err-load : goal.returns-in_err-load
 returns-in_err-load c =
-    let p = err_from_is_err_and c.from-residual.result c.from-residual.ensures.1 in
+    let p = err_from_is_err_and c.from_residual.result c.from_residual.ensures.1 in
     rw (p.1, p.2) (c.in_err-load.ensures.bus, c.load.ensures.same)
 
 pub invariant_of-self : goal.invariant_of-self
@@ -16,7 +16,7 @@ invariant_of-self c = (c.load.new.self.room, (c.load.new.self.short, tt))
 
 pub returns-in_err-play : goal.returns-in_err-play
 returns-in_err-play c =
-    let p = err_from_is_err_and c.from-residual-in_err-play.result c.from-residual-in_err-play.ensures.1 in
+    let p = err_from_is_err_and c.from_residual-in_err-play.result c.from_residual-in_err-play.ensures.1 in
     let f = c.in_err-play.ensures.played in
     rw (p.1, p.2)
     (f.0, desk_same _ _ (free_bus c.load.new.self.bus) (free_bus c.play.new.source) _ _ _ (ap state_of f.1) (ap free_bus f.2) ∙ c.load.ensures.same)

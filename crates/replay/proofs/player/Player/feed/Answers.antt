@@ -23,7 +23,7 @@ returns c =
 pub returns-in_err-feed_byte : goal.returns-in_err-feed_byte
 returns-in_err-feed_byte c =
     let l = c.loop-byte in
-    let p = err_from_is_err_and c.from-residual.result c.from-residual.ensures.1 in
+    let p = err_from_is_err_and c.from_residual.result c.from_residual.ensures.1 in
     let f = c.in_err-feed_byte.ensures in
     rw (p.1, p.2) (
       f.0,

@@ -6,7 +6,7 @@ use Rattle.replay.proofs.player.Player.feed_byte.Goals as goal
 
 pub returns-in_err-play_line : goal.returns-in_err-play_line
 returns-in_err-play_line c =
-    let p = err_from_is_err_and c.from-residual.result c.from-residual.ensures.1 in
+    let p = err_from_is_err_and c.from_residual.result c.from_residual.ensures.1 in
     rw (p.1, p.2) c.in_err-play_line.ensures
 
 pub returns-then-byte-eq10 : goal.returns-then-byte-eq10
@@ -15,10 +15,10 @@ returns-then-byte-eq10 c =
     fed_line (stage_of c.args.self.now) (stage_of c.play_line.new.self) (held_of c.args.self.now) (vec_items c.clear.new.self) (vec_items c.args.out.now) (vec_items c.play_line.new.out) c.args.byte
     c.if-byte-eq10.true f.0 f.1 c.clear.ensures.items
 
-pub returns-then-len-gt-LONGEST-LINE : goal.returns-then-len-gt-LONGEST-LINE
-returns-then-len-gt-LONGEST-LINE c =
+pub returns-then-len-gt-LONGEST_LINE : goal.returns-then-len-gt-LONGEST_LINE
+returns-then-len-gt-LONGEST_LINE c =
     fed_behind (stage_of c.args.self.now) (held_of c.args.self.now) (vec_items c.args.out.now) c.args.byte c.if-byte-eq10.false
-    (let a = c.args.self.now.held.ok.0 in let b = c.if-len-gt-LONGEST-LINE.true in let d = c.len.ensures in omega arith)
+    (let a = c.args.self.now.held.ok.0 in let b = c.if-len-gt-LONGEST_LINE.true in let d = c.len.ensures in omega arith)
 
 pub returns : goal.returns
 returns c =

@@ -12,7 +12,7 @@ returns-then-is_empty c =
 
 pub returns-in_err-play_line : goal.returns-in_err-play_line
 returns-in_err-play_line c =
-    let p = err_from_is_err_and c.from-residual.result c.from-residual.ensures.1 in
+    let p = err_from_is_err_and c.from_residual.result c.from_residual.ensures.1 in
     rw (p.1, p.2) c.in_err-play_line.ensures
 
 pub invariant_of-self : goal.invariant_of-self
