@@ -11,10 +11,10 @@ perform-requires c =
       clocks = c.requires.clocks;
     }
 
-pub returns-in_ok-perform : goal.returns-in_ok-perform
-returns-in_ok-perform c =
+pub returns-in_ok-perform-in-Ok : goal.returns-in_ok-perform-in-Ok
+returns-in_ok-perform-in-Ok c =
     let d = desk_of c.args.self.now in
-    let done = c.in_ok-perform.ensures.done in
+    let done = c.in_ok-perform-in-Ok.ensures.done in
     let few = few_answers c.in-Ok.request (length c.args.line.now) c.len.result c.args.self.now.closed d c.in-Ok.ensures.fits in
     record {
       done = record {

@@ -12,7 +12,7 @@ returns-in_err-load c =
     rw (p.1, p.2) (c.in_err-load.ensures.bus, c.load.ensures.same)
 
 pub invariant_of-self : goal.invariant_of-self
-invariant_of-self c = (c.load.new.self.room, (c.load.new.self.short, tt))
+invariant_of-self c = record { room = c.load.new.self.room; short = c.load.new.self.short }
 
 pub returns-in_err-play : goal.returns-in_err-play
 returns-in_err-play c =

@@ -20,7 +20,7 @@ invariant_of-self c =
     let n = c.clear.ensures.len in
     let k = c.clear.ensures.capacity in
     let room = c.play_line.new.self.room in
-    (omega arith, (omega arith, (c.play_line.new.self.ticks, tt)))
+    record { room = omega arith; short = omega arith; ticks = c.play_line.new.self.ticks }
 
 pub returns : goal.returns
 returns c =

@@ -3,5 +3,5 @@ use Rattle.replay.proofs.player.Player.new.Goals as goal
 
 pub invariant_of-result : goal.invariant_of-result
 invariant_of-result c =
-    let h = c.in_ok-held.ensures.made in
-    ((let a = h in omega arith), ((let a = h in omega arith), (c.in_ok-clocks.ensures, tt)))
+    let held = c.in_ok-held.ensures in
+    record { room = omega arith; short = omega arith; ticks = c.in_ok-clocks.ensures }

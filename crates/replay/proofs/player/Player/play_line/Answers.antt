@@ -12,10 +12,10 @@ returns-then-self-ge-LAST_LINE c = (
 )
 
 pub invariant_of-self : goal.invariant_of-self
-invariant_of-self c = (c.args.self.now.room, (c.args.self.now.short, (c.args.self.now.ticks, tt)))
+invariant_of-self c = record { room = c.args.self.now.room; short = c.args.self.now.short; ticks = c.args.self.now.ticks }
 
 pub invariant_of-self-2 : goal.invariant_of-self-2
-invariant_of-self-2 c = (c.args.self.now.room, (c.args.self.now.short, (c.args.self.now.ticks, tt)))
+invariant_of-self-2 c = record { room = c.args.self.now.room; short = c.args.self.now.short; ticks = c.args.self.now.ticks }
 
 pub returns-in_err-request : goal.returns-in_err-request
 returns-in_err-request c =
