@@ -13,7 +13,7 @@ use Rattle.frame.specs.Law.{Ready, Quiet, Found, clocks, Law, FrameLaw}
 use Rattle.frame.proofs.Lawful.{frame_law}
 use Rattle.frame.proofs.Threads.{found_over}
 use Rattle.console.specs.Answers.{answer, clock_answer, stroke_refusal}
-use Rattle.console.specs.Playing.{told, Played, Lawful}
+use Rattle.console.specs.Playing.{told, Played, On, Lawful}
 
 -- a refusal or none, as the calls and as the rules answer it
 pub told_is : (o : Option Refusal) → told (answer o) ≡ done o
@@ -38,21 +38,15 @@ pub refusal_told : (o : Option Shape) (s : State) (x : Refusal) → Err x ≡ cl
 refusal_told None s x e = cc
 refusal_told (Some c) s x e = absurd (let z : ◌≡◌ {A = ℕ} 0 1 = cc in omega arith)
 
--- the calls that are left lead where all of them lead
-pub record On (cs : List Call) (s : State) (m : Meaning) (out : List Answer) (cs₀ : List Call) (s₀ : State) (m₀ : Meaning) (out₀ : List Answer) : Type 0 where
-  pub state : after (over cs s m) s ≡ after (over cs₀ s₀ m₀) s₀
-  pub source : source_after cs s m ≡ source_after cs₀ s₀ m₀
-  pub all : out ++ answers (over cs s m) s ≡ out₀ ++ answers (over cs₀ s₀ m₀) s₀
-
-after_more : (x : Call) (cs : List Call) (s : State) (m : Meaning) → after (over (x ∷ cs) s m) s ≡ after (over cs (call_state x s m) (call_source x s m)) (call_state x s m)
+pub after_more : (x : Call) (cs : List Call) (s : State) (m : Meaning) → after (over (x ∷ cs) s m) s ≡ after (over cs (call_state x s m) (call_source x s m)) (call_state x s m)
 unfolding after over
 after_more x cs s m = refl
 
-source_more : (x : Call) (cs : List Call) (s : State) (m : Meaning) → source_after (x ∷ cs) s m ≡ source_after cs (call_state x s m) (call_source x s m)
+pub source_more : (x : Call) (cs : List Call) (s : State) (m : Meaning) → source_after (x ∷ cs) s m ≡ source_after cs (call_state x s m) (call_source x s m)
 unfolding source_after
 source_more x cs s m = refl
 
-answers_more : (x : Call) (cs : List Call) (s : State) (m : Meaning) → answers (over (x ∷ cs) s m) s ≡ call_answer x s ∷ answers (over cs (call_state x s m) (call_source x s m)) (call_state x s m)
+pub answers_more : (x : Call) (cs : List Call) (s : State) (m : Meaning) → answers (over (x ∷ cs) s m) s ≡ call_answer x s ∷ answers (over cs (call_state x s m) (call_source x s m)) (call_state x s m)
 unfolding answers over
 answers_more x cs s m = refl
 
@@ -78,6 +72,13 @@ unfolding after over source_after answers
 on_end xs s m out cs₀ s₀ m₀ out₀ e on =
     let on₂ = subst (λ (ys : List Call). On ys s m out cs₀ s₀ m₀ out₀) e on in
     record { state = on₂.state; source = on₂.source; answers_are = sym (append-nil out) ∙ on₂.all }
+
+pub on_through :
+    (xs : List Call) (s₂ : State) (m₂ : Meaning) (out₂ : List Answer) (ys zs : List Call) (s : State) (m : Meaning) (out : List Answer) (cs₀ : List Call) (s₀ : State) (m₀ : Meaning) (out₀ : List Answer)
+    → On zs s m out cs₀ s₀ m₀ out₀ → ys ≡ zs → On xs s₂ m₂ out₂ ys s m out → On xs s₂ m₂ out₂ cs₀ s₀ m₀ out₀
+on_through xs s₂ m₂ out₂ ys zs s m out cs₀ s₀ m₀ out₀ a e b =
+    let b₂ = subst (λ (l : List Call). On xs s₂ m₂ out₂ l s m out) e b in
+    record { state = b₂.state ∙ a.state; source = b₂.source ∙ a.source; all = b₂.all ∙ a.all }
 
 pub next_call : (l : List Call) (i : ℕ) (d : Call) → i < length l → drop i l ≡ get_or l i d ∷ drop (i + 1) l
 next_call l i d h = rw (add-one, drop-cons l i d) refl

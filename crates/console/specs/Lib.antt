@@ -3,4 +3,6 @@ pub mod Bounds
 pub mod Model
 pub mod Steps
 pub mod Answers
+pub mod Idle
 pub mod Playing
+pub mod Parts

@@ -21,6 +21,12 @@ pub record Played (s : State) (m : Meaning) (cs : List Call) (out : List Answer)
   pub source : m₂ ≡ source_after cs s m
   pub answers_are : out₂ ≡ out ++ answers (over cs s m) s
 
+-- some of the calls were played: those that are left lead from here where all of them lead
+pub record On (cs : List Call) (s : State) (m : Meaning) (out : List Answer) (cs₀ : List Call) (s₀ : State) (m₀ : Meaning) (out₀ : List Answer) : Type 0 where
+  pub state : after (over cs s m) s ≡ after (over cs₀ s₀ m₀) s₀
+  pub source : source_after cs s m ≡ source_after cs₀ s₀ m₀
+  pub all : out ++ answers (over cs s m) s ≡ out₀ ++ answers (over cs₀ s₀ m₀) s₀
+
 -- the law of a frame, for every history from a new console
 pub record Lawful (s : State) (m : Meaning) (cs : List Call) (out : List Answer) (e : State) (out₂ : List Answer) : Type 0 where
   -- of calls that begin at the first clock of an armed frame and stay inside it: page and bus are the source's at the first clock

@@ -1,5 +1,9 @@
 // What the clock moves: the place of the beam in the frame, and the row buffers.
+ghost use Rattle.rows.specs.Drawn.{Drawn};
+ghost use Rattle.rows.specs.Model.{shown_of};
+
 use frame::burst::Burst;
+use rows::looks::Looks;
 use rows::state::{RowBuffer, Showing};
 
 #[derive(Clone, Copy)]
@@ -22,6 +26,10 @@ pub struct Raster {
     pub fill: RowBuffer,
     // the row that is being shown
     pub shown: Showing,
+    // the looks of its columns
+    pub looks: Looks,
+    ghost drawn: { Drawn looks (shown_of shown) },
 }
 
+pub mod idle;
 pub mod steps;

@@ -33,6 +33,7 @@ pub struct Console {
 }
 
 pub mod clock;
+pub mod parts;
 pub mod picture;
 pub mod play;
 pub mod port;

@@ -74,6 +74,10 @@ hrtc c k = nat_le c.h k.column
 abbrev pub vrtc : Shape → Core → Bool
 vrtc c k = k.row == 0 || nat_lt c.r k.row
 
+-- a clock shows a column of a row
+abbrev pub lit : Shape → Core → Bool
+lit c k = k.armed && (not k.dark && (not (vrtc c k) && not (hrtc c k)))
+
 -- the picture bits of a clock: dark in retrace, in a frame that is not armed and in one that went dark
 abbrev pub pictured : Shape → Option (ℕ × ℕ) → Core → ℕ
 pictured c q k =

@@ -9,3 +9,4 @@ pub mod Bound
 pub mod Buffer
 pub mod Model
 pub mod Stands
+pub mod Drawn

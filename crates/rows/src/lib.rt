@@ -5,6 +5,7 @@ pub mod buffer;
 pub mod burst;
 pub mod found;
 pub mod kinds;
+pub mod looks;
 pub mod page;
 pub mod reader;
 pub mod showing;

@@ -69,6 +69,25 @@ pub fn cursor_in(cursor: Option<(u8, u8)>, row: u16, p: u8) -> bool
     }
 }
 
+// How many columns from `from` on, at most `most`, are ahead of the cursor or without one.
+pub fn without_cursor(cursor: Option<(u8, u8)>, row: u16, from: u8, most: u8) -> u8
+    ensures most { result ≤ most }
+    ensures none { (p : ℕ) → from ≤ p → p < from + result → cursor_in cursor row p ≡ false }
+    ensures next { result < most → cursor_in cursor row (from + result) ≡ true }
+{
+    let Some((column, above)) = cursor else {
+        return most;
+    };
+    if above as u16 + 1 != row {
+        return most;
+    }
+    if column < from {
+        return most;
+    }
+    let ahead = column - from;
+    if ahead < most { ahead } else { most }
+}
+
 // The picture bits of clock p of a line of row j + 1, which was found.
 fn picture(
     composition: &Composition,

@@ -18,6 +18,11 @@ wait_more i m =
     same_meaning m.page m.rest (λ k. m.free (i + suc k)) (λ k. m.free (i + 1 + k))
     (λ k. let q : i + suc k ≡ i + 1 + k = omega arith in ap m.free q)
 
+pub wait_first : (i : ℕ) (m : Meaning) → waited i (clocked m false) ≡ waited (suc i) m
+wait_first i m =
+    same_meaning m.page m.rest (λ k. m.free (suc (i + k))) (λ k. m.free (suc i + k))
+    (λ k. let q : suc (i + k) ≡ suc i + k = omega arith in ap m.free q)
+
 -- the answers of n clocks, all wanted, and what they lead to
 abbrev pub answers : ℕ → Meaning → List (Option ℕ)
 answers zero m = []

@@ -1,4 +1,4 @@
-mod Draining
+pub mod Draining
 mod Reading
 mod Rounds
 mod Scan

@@ -1,7 +1,7 @@
 -- How a turn goes on.
 use Rattle.std.proofs.Common.{◌≡◌, ℕ, suc, ◌+◌, ◌%◌, ◌<◌, cond, eqb, ltb, sym, ap, ◌∙◌, ⊎_elim, add-zero, mod-eq_of_lt, arith}
 use mathlib.Core.Path.{fun_ext}
-use native.Mathlib.Nat.{add-mod_left}
+use native.Mathlib.Nat.{add-mod_left, mod-add-mod}
 use Rattle.std.proofs.lemmas.Bool.{cases_Bool, eqb-true}
 use Rattle.source.specs.Meaning.{later}
 use Rattle.source.specs.Buses.{in_turn}
@@ -23,3 +23,8 @@ turn_after a b gone = fun_ext (λ n. ⊎_elim
     (λ e. ap (λ t. in_turn a b (cond t 0 (gone + 1)) n) e ∙ turn_wraps a b gone n (eqb-true (gone + 1) (a + b) e))
     (λ e. ap (λ t. in_turn a b (cond t 0 (gone + 1)) n) e ∙ turn_goes a b gone n)
     (cases_Bool (eqb (gone + 1) (a + b))))
+
+-- n clocks on
+pub turn_waits : (a b gone n : ℕ) → in_turn a b ((gone + n) % (a + b)) ≡ (λ (k : ℕ). in_turn a b gone (n + k))
+turn_waits a b gone n =
+    fun_ext (λ k. let q : gone + n + k ≡ gone + (n + k) = omega arith in ap (λ t. ltb t a) (mod-add-mod (gone + n) (a + b) k ∙ ap (λ t. t % (a + b)) q))

@@ -1,5 +1,5 @@
 -- A bus that is busy in spans of clocks.
-use Rattle.std.specs.Prelude.{ℕ, ◌+◌, min, Bool, true, false, not, ◌&&◌, ◌||◌, List, [], ◌∷◌, length, nat_le, nat_lt}
+use Rattle.std.specs.Prelude.{◌≡◌, ℕ, ◌+◌, ◌<◌, ◌≤◌, min, Bool, true, false, not, ◌&&◌, ◌||◌, List, [], ◌∷◌, length, Some, None, Option, nat_le, nat_lt}
 use Rattle.source.specs.declared.stalls.Span.{Span}
 
 -- from the first clock on, for as many as the length
@@ -26,3 +26,8 @@ all_small (s ∷ ss) = small s && all_small ss
 -- too many spans, or one with a figure too large
 abbrev pub bad_spans : List Span → Bool
 bad_spans spans = nat_lt 256 (length spans) || not (all_small spans)
+
+-- a clock is free, or it and all clocks up to another are busy
+abbrev pub HeldUntil : List Span → (clock : ℕ) → Option ℕ → Type 0
+HeldUntil spans clock None = busy_in spans clock ≡ false
+HeldUntil spans clock (Some end) = (clock < end) × ((t : ℕ) → clock ≤ t → t < end → busy_in spans t ≡ true)

@@ -1,5 +1,5 @@
 // Runs of clocks over any source.
-ghost use Rattle.std.specs.Prelude.{◌≡◌, true, false};
+ghost use Rattle.std.specs.Prelude.{◌≡◌, true};
 ghost use Rattle.source.specs.Meaning.{answer, clocked};
 ghost use Rattle.source.specs.Runs.{Drained, waited};
 
@@ -10,12 +10,6 @@ fn ask<S: Source>(source: &mut S) -> Option<u8>
     ensures after { S.means source.new ≡ clocked (S.means source.old) true }
 {
     source.clock(true)
-}
-
-fn pass<S: Source>(source: &mut S)
-    ensures { S.means source.new ≡ clocked (S.means source.old) false }
-{
-    let _ = source.clock(false);
 }
 
 // One clock for each place, a byte wanted in all of them; each place takes what its clock answered.
@@ -31,7 +25,5 @@ pub fn drain<S: Source>(source: &mut S, came: &mut [Option<u8>])
 pub fn wait<S: Source>(source: &mut S, clocks: u32)
     ensures { S.means source.new ≡ waited clocks (S.means source.old) }
 {
-    for _ in 0..clocks {
-        pass(source);
-    }
+    source.wait(clocks);
 }

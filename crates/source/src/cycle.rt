@@ -1,5 +1,5 @@
 // A bus that is free for some clocks and then busy for some, in turn.
-ghost use Rattle.std.specs.Prelude.{◌≡◌, ◌+◌, ◌<◌, true, false, if◌then◌else◌, MatchResult, nat_eq, nat_lt};
+ghost use Rattle.std.specs.Prelude.{◌≡◌, ℕ, ◌+◌, ◌<◌, true, false, if◌then◌else◌, MatchResult, nat_eq, nat_lt};
 ghost use Rattle.source.specs.Meaning.{later};
 ghost use Rattle.source.specs.Buses.{always, in_turn, no_turn};
 ghost use Rattle.refusal.specs.declared.Refusal.TheVariants.{BadBus};
@@ -69,5 +69,14 @@ impl Cycle {
         } else {
             next
         };
+    }
+
+    // Many clocks at once.
+    pub(crate) fn wait(&mut self, clocks: u32)
+        ensures { in_turn self.new.free self.new.busy self.new.gone
+            ≡ (λ (k : ℕ). in_turn self.old.free self.old.busy self.old.gone (clocks + k)) }
+    {
+        let turn = self.free as u64 + self.busy as u64;
+        self.gone = ((self.gone as u64 + clocks as u64) % turn) as u16;
     }
 }

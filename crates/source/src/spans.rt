@@ -62,4 +62,8 @@ impl Source for SpanBus {
         let free = self.stalls.clock();
         self.page.clock(wanted, free)
     }
+
+    fn wait(&mut self, clocks: u32) {
+        self.stalls.wait(clocks);
+    }
 }

@@ -1,8 +1,8 @@
 // The spans of clocks in which a bus is busy.
-ghost use Rattle.std.specs.Prelude.{◌≡◌, ℕ, ◌+◌, min, true, false, IfOk, MatchResult};
+ghost use Rattle.std.specs.Prelude.{◌≡◌, ℕ, ◌+◌, ◌<◌, ◌≤◌, min, true, false, not, IfOk, MatchResult};
 ghost use Rattle.source.specs.Buses.{always};
 ghost use Rattle.source.specs.Meaning.{later};
-ghost use Rattle.source.specs.Stalling.{small, all_small, covers, busy_in, outside, bad_spans};
+ghost use Rattle.source.specs.Stalling.{small, all_small, covers, busy_in, outside, bad_spans, HeldUntil};
 ghost use Rattle.refusal.specs.declared.Refusal.TheVariants.{BadBus};
 
 use refusal::Refusal;
@@ -24,7 +24,11 @@ pub(crate) struct Stalls {
     spans: Vec<Span>,
     // clocks since the source was made
     count: u32,
+    // up to the clock `until` the bus is free, or it is busy
+    free: bool,
+    until: u32,
     ghost fit: { bad_spans spans.items ≡ false },
+    ghost steady: { (t : ℕ) → count ≤ t → t < until → busy_in spans.items t ≡ not free },
 }
 
 impl Span {
@@ -62,15 +66,31 @@ pub(crate) fn check_spans(spans: &[Span]) -> Result<(), Refusal>
     Ok(())
 }
 
-fn busy_in(spans: &[Span], clock: u32) -> bool
-    ensures { result ≡ busy_in spans.now clock }
+// Where the clock is busy, a clock from which on the span that has it is over.
+fn busy_until(spans: &[Span], clock: u32) -> Option<u32>
+    requires { all_small spans.now ≡ true }
+    ensures { HeldUntil spans.now clock result }
 {
     for span in spans {
         if span.covers(clock) {
-            return true;
+            return Some(span.first + span.length);
         }
     }
-    false
+    None
+}
+
+// From a clock that is free, the first in which another span begins.
+fn free_until(spans: &[Span], clock: u32) -> u32
+    requires { busy_in spans.now clock ≡ false }
+    ensures { (t : ℕ) → clock ≤ t → t < result → busy_in spans.now t ≡ false }
+{
+    let mut until = u32::MAX;
+    for span in spans {
+        if span.first > clock {
+            until = until.min(span.first);
+        }
+    }
+    until
 }
 
 impl Stalls {
@@ -80,6 +100,8 @@ impl Stalls {
         Stalls {
             spans: Vec::new(heap),
             count: 0,
+            free: true,
+            until: 0,
         }
     }
 
@@ -88,7 +110,12 @@ impl Stalls {
         ensures { IfOk result (λ s. (s.spans.items ≡ spans.now) × (s.count ≡ 0)) }
     {
         let spans = Vec::from_slice(heap, spans)?;
-        Ok(Stalls { spans, count: 0 })
+        Ok(Stalls {
+            spans,
+            count: 0,
+            free: true,
+            until: 0,
+        })
     }
 
     // Whether the bus is free in the clock that now passes.
@@ -96,9 +123,29 @@ impl Stalls {
         ensures this { result ≡ outside self.old.spans.items self.old.count 0 }
         ensures after { outside self.new.spans.items self.new.count ≡ later (outside self.old.spans.items self.old.count) }
     {
-        let free = !busy_in(self.spans.as_slice(), self.count);
+        if self.count >= self.until {
+            self.look();
+        }
+        let free = self.free;
         self.pass();
         free
+    }
+
+    // Goes through the spans for the clock that now passes, and for how long the bus stays as it is.
+    fn look(&mut self)
+        ensures same { (self.new.spans.items ≡ self.old.spans.items) × (self.new.count ≡ self.old.count) }
+        ensures free { busy_in self.old.spans.items self.old.count ≡ not self.new.free }
+    {
+        match busy_until(self.spans.as_slice(), self.count) {
+            Some(end) => {
+                self.free = false;
+                self.until = end;
+            }
+            None => {
+                self.free = true;
+                self.until = free_until(self.spans.as_slice(), self.count);
+            }
+        }
     }
 
     pub(crate) fn count(&self) -> u32
@@ -113,5 +160,13 @@ impl Stalls {
         ensures count { self.new.count ≡ min (self.old.count + 1) 4294967295 }
     {
         self.count = self.count.saturating_add(1);
+    }
+
+    // Many clocks at once.
+    pub(crate) fn wait(&mut self, clocks: u32)
+        ensures { outside self.new.spans.items self.new.count
+            ≡ (λ (k : ℕ). outside self.old.spans.items self.old.count (clocks + k)) }
+    {
+        self.count = self.count.saturating_add(clocks);
     }
 }

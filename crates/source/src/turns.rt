@@ -53,4 +53,8 @@ impl Source for TurnBus {
         let free = self.cycle.clock();
         self.page.clock(wanted, free)
     }
+
+    fn wait(&mut self, clocks: u32) {
+        self.cycle.wait(clocks);
+    }
 }

@@ -7,6 +7,7 @@ use Rattle.video.specs.declared.format.CursorFormat.TheVariants.{BlinkingBlock, 
 use Rattle.video.specs.declared.field.Field.{Field}
 use Rattle.video.specs.declared.mark.Mark.{Mark}
 use Rattle.video.specs.declared.mark.Mark.TheVariants.{Plain, Vsp, Lten, La01, La10, La11}
+use Rattle.video.specs.declared.scan.ScanLine.{ScanLine}
 use Rattle.video.specs.declared.signals.Signals.{Signals}
 use Rattle.video.specs.declared.cell.Cell.{Cell}
 use Rattle.video.specs.declared.cell.Cell.TheVariants.{Dark, Text, Symbol}
@@ -111,3 +112,13 @@ unfoldable pub cell_word : Shape → (line blink : ℕ) (here : Bool) → Cell �
 cell_word c line k here Dark = dark_word (line_count c line) false false
 cell_word c line k here (Text cc f) = signals_word (line_count c line) (finished c line k here (text_signals c.u line k cc f))
 cell_word c line k here (Symbol b f) = signals_word (line_count c line) (finished c line k here (graphic_signals c.u line k b f))
+
+-- the kind of a line, at a blink count: where it lies to line U, whether blinking characters are off, and whether it is suppressed throughout
+abbrev pub scan_line : Shape → (line blink : ℕ) → ScanLine
+scan_line c line k = record { above = nat_lt line c.u; on = (line == c.u); off = nat_le 16 k; blanked = blanked c.u c.l line }
+
+-- what a column has where no cursor stands, but for the line count
+unfoldable pub look : Shape → (line blink : ℕ) → Cell → ℕ
+look c line k Dark = dark_word 0 false false
+look c line k (Text cc f) = signals_word 0 (finished c line k false (text_signals c.u line k cc f))
+look c line k (Symbol b f) = signals_word 0 (finished c line k false (graphic_signals c.u line k b f))

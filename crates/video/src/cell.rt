@@ -4,7 +4,7 @@
 //   VRTC HRTC GPA1 GPA0 HGLT VSP RVV LTEN LA1 LA0 line count character
 ghost use Rattle.std.specs.Prelude.{◌≡◌, ℕ, ◌+◌, ◌*◌, ◌/◌, ◌%◌, ◌<◌, ◌≤◌, Bool, true, false};
 ghost use Rattle.video.specs.Composition.{shape_of};
-ghost use Rattle.video.specs.Picture.{bit, marked, text_signals, graphic_signals, cursor_acts, is_block, blanked, finished, signals_word, dark_word, cell_word};
+ghost use Rattle.video.specs.Picture.{bit, marked, text_signals, graphic_signals, cursor_acts, is_block, blanked, finished, signals_word, dark_word, cell_word, look};
 
 use crate::composition::Composition;
 use crate::field::Field;
@@ -175,6 +175,24 @@ impl Cell {
                     graphic_signals(underline, line, blink, byte, field),
                 ),
             ),
+        }
+    }
+
+    // The same without line count and cursor: what a column has alike on all lines of a kind.
+    pub fn look(self, composition: &Composition, line: u8, blink: u8) -> u32
+        ensures { result ≡ look (shape_of composition.now) line blink self }
+    {
+        let underline = composition.underline;
+        match self {
+            Cell::Dark => dark_word(0, false, false),
+            Cell::Text(cc, field) => {
+                let text = text_signals(underline, line, blink, cc, field);
+                signals_word(0, finished(composition, line, blink, false, text))
+            }
+            Cell::Symbol(byte, field) => {
+                let symbol = graphic_signals(underline, line, blink, byte, field);
+                signals_word(0, finished(composition, line, blink, false, symbol))
+            }
         }
     }
 }

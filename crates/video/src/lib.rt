@@ -6,5 +6,6 @@ pub mod composition;
 pub mod field;
 pub mod format;
 pub mod mark;
+pub mod scan;
 pub mod signals;
 pub mod table;

@@ -1,20 +1,23 @@
 // One clock of the raster, by its parts.
 ghost use Rattle.std.specs.Prelude.{◌≡◌, ℕ, suc, ◌+◌, ◌<◌, ◌≤◌, Bool, true, false, ◌&&◌, None, ◌==◌};
 ghost use Rattle.video.specs.Composition.{shape_of};
-ghost use Rattle.rows.specs.Buffer.{full};
-ghost use Rattle.rows.specs.Model.{buffer_of};
+ghost use Rattle.video.specs.Picture.{cell_word};
+ghost use Rattle.rows.specs.Buffer.{full, column_cell};
+ghost use Rattle.rows.specs.Model.{buffer_of, shown_of};
 ghost use Rattle.frame.specs.Ports.{Bursts, bursts_of, new, disarmed, moved_to, first_frame};
 ghost use Rattle.frame.specs.Timing.{pause};
-ghost use Rattle.frame.specs.Machine.{frame_start, row_start, opening, idle, underrun, prepared, wants, pictured, fed, turn, moved};
+ghost use Rattle.frame.specs.Machine.{frame_start, row_start, opening, idle, underrun, prepared, wants, lit, pictured, fed, turn, moved};
 ghost use Rattle.console.specs.Raster.{core_of};
 
 use crate::raster::Raster;
 use frame::burst::Burst;
 use rows::burst::BurstSize;
+use rows::looks::Looks;
 use rows::page::{blank, cursor_in};
 use rows::state::RowBuffer;
 use video::cell::dark_word;
 use video::composition::Composition;
+use video::scan::ScanLine;
 
 // A row that takes nothing: a blank one, and what lies below the last.
 fn idle(composition: &Composition, row: u8) -> bool
@@ -53,6 +56,7 @@ impl Raster {
             gap: 0,
             fill: top,
             shown: top.show,
+            looks: Looks::none(),
         }
     }
 
@@ -135,8 +139,47 @@ impl Raster {
         );
         self.dark = self.dark | late;
         self.gap = 0;
+        self.looks = Looks::none();
         self.shown = self.fill.show;
         self.fill = next;
+    }
+
+    // The clock shows a column of a row.
+    pub(crate) fn lit(&self, composition: &Composition) -> bool
+        ensures { result ≡ lit (shape_of composition.now) (core_of self.now) }
+    {
+        let hrtc = self.column >= composition.columns;
+        let vrtc = (self.row == 0) | (self.row > composition.rows);
+        self.armed & (!self.dark & (!vrtc & !hrtc))
+    }
+
+    // Where a row is shown, the looks of its columns are at hand for the line.
+    pub(crate) fn draw_row(&mut self, composition: &Composition)
+        ensures core { core_of self.new ≡ core_of self.old }
+        ensures stays { (self.new.row ≡ self.old.row) × (self.new.line ≡ self.old.line)
+            × (self.new.column ≡ self.old.column) × (self.new.blink ≡ self.old.blink) }
+    {
+        if self.lit(composition) {
+            let line = ScanLine::new(composition, self.line, self.blink);
+            if !self.looks.are_of(line) {
+                self.looks = Looks::of(&self.shown, composition, self.line, self.blink);
+            }
+        }
+    }
+
+    // The picture bits of the column of the clock: `here` where the cursor stands in it.
+    fn column_word(&self, composition: &Composition, here: bool) -> u32
+        ensures is { result ≡ cell_word (shape_of composition.now) self.now.line self.now.blink here (column_cell (shown_of self.now.shown) self.now.column) }
+        ensures small { result < 0x400000 }
+    {
+        let line = ScanLine::new(composition, self.line, self.blink);
+        if here | ((self.column >= 80) | !self.looks.are_of(line)) {
+            return self
+                .shown
+                .cell(self.column)
+                .word(composition, self.line, self.blink, here);
+        }
+        self.looks.of_column(self.column) + 0x100 * composition.line_count(self.line) as u32
     }
 
     // The picture bits of the clock.
@@ -144,14 +187,12 @@ impl Raster {
         ensures small { result < 0x400000 }
         ensures is { result ≡ pictured (shape_of composition.now) cursor (core_of self.now) }
     {
-        let hrtc = self.column >= composition.columns;
-        let vrtc = (self.row == 0) | (self.row > composition.rows);
-        if self.armed & (!self.dark & (!vrtc & !hrtc)) {
+        if self.lit(composition) {
             let here = cursor_in(cursor, self.row as u16, self.column);
-            self.shown
-                .cell(self.column)
-                .word(composition, self.line, self.blink, here)
+            self.column_word(composition, here)
         } else {
+            let hrtc = self.column >= composition.columns;
+            let vrtc = (self.row == 0) | (self.row > composition.rows);
             dark_word(composition.line_count(self.line), hrtc, vrtc)
         }
     }

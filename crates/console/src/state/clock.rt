@@ -1,5 +1,5 @@
 // One clock of the console over a byte source, and the light pen.
-ghost use Rattle.std.specs.Prelude.{◌≡◌, ℕ, ◌+◌, ◌*◌, true, Some, None};
+ghost use Rattle.std.specs.Prelude.{◌≡◌, ℕ, ◌+◌, ◌*◌, ◌≤◌, true, Some, None};
 ghost use Rattle.source.specs.Meaning.{begun};
 ghost use Rattle.video.specs.Composition.{shape_of};
 ghost use Rattle.video.specs.Picture.{bit};
@@ -17,8 +17,9 @@ use refusal::Refusal;
 use source::Source;
 use video::composition::Composition;
 
-fn bit(b: bool) -> u32
-    ensures { result ≡ bit b }
+pub(crate) fn bit(b: bool) -> u32
+    ensures is { result ≡ bit b }
+    ensures small { result ≤ 1 }
 {
     if b { 1 } else { 0 }
 }
@@ -111,6 +112,7 @@ impl Console {
             return Err(Refusal::NoComposition);
         };
         self.prepare(&composition, source);
+        self.raster.draw_row(&composition);
         let word = self.word(&composition);
         let came = source.clock(self.raster.wants());
         self.store(&composition, came);

@@ -1,0 +1,114 @@
+-- Clocks in which nothing begins and no byte is asked for.
+use Rattle.std.proofs.Common.{◌≡◌, ℕ, zero, suc, ◌+◌, ◌-◌, ◌*◌, ◌<◌, ◌≤◌, Bool, true, false, cond, not, ◌&&◌, ◌||◌, eqb, ltb, leb, ◌⊎◌, List, [], ◌∷◌, ◌++◌, length, get_or, drop, Some, None, Option, sym, refl, ap, ◌∙◌, inl, inr, ⊎_elim, append_assoc, append-nil, add-one, arith}
+use Rattle.std.proofs.lemmas.Bool.{cases_Bool, cases_lt}
+use Rattle.std.proofs.lemmas.Bool.Decides.{nat_tests}
+use Rattle.source.specs.Meaning.{Meaning, answer, clocked}
+use Rattle.source.specs.Runs.{waited}
+use Rattle.video.specs.Composition.{Shape, width, line_count}
+use Rattle.video.specs.Picture.{bit, dark_word, cell_word, look}
+use Rattle.video.proofs.Looks.{word_by_look}
+use Rattle.rows.specs.Buffer.{Shown, column_cell}
+use Rattle.rows.specs.Page.{cursor_in}
+use Rattle.frame.specs.declared.call.Answer.{Answer}
+use Rattle.frame.specs.declared.call.Answer.TheVariants.{Word}
+use Rattle.frame.specs.Ports.{Core}
+use Rattle.frame.specs.Machine.{hrtc, vrtc, lit, pictured}
+use Rattle.console.specs.Idle.{idled, idle_words, looked, repeated}
+
+-- one word more of those still to come
+less_one : (n i : ℕ) → i < n → n - i ≡ suc (n - (i + 1))
+less_one n i h = omega arith
+
+none_left : (n i : ℕ) → n ≤ i → n - i ≡ 0
+none_left n i h = omega arith
+
+moved_on : (out : List Answer) (x : Answer) (xs ys whole : List Answer) → whole ≡ out ++ ys → ys ≡ x ∷ xs → whole ≡ (out ++ x ∷ []) ++ xs
+moved_on out x xs ys whole e f = e ∙ ap (λ (l : List Answer). out ++ l) f ∙ sym (append_assoc out (x ∷ []) xs)
+
+pub repeated_more : (w n i : ℕ) (out out₂ whole : List Answer) → i < n → whole ≡ out ++ repeated w (n - i) → out₂ ≡ out ++ Word w ∷ [] → whole ≡ out₂ ++ repeated w (n - (i + 1))
+repeated_more w n i out out₂ whole h e f =
+    moved_on out (Word w) (repeated w (n - (i + 1))) (repeated w (n - i)) whole e (ap (repeated w) (less_one n i h)) ∙ ap (λ (l : List Answer). l ++ repeated w (n - (i + 1))) (sym f)
+
+pub looked_more : (c : Shape) (line k : ℕ) (s : Shown) (base m p v : ℕ) (out out₂ whole : List Answer) → p < m → whole ≡ out ++ looked c line k s base (m - p) p → v ≡ look c line k (column_cell s p) + base
+    → out₂ ≡ out ++ Word v ∷ [] → whole ≡ out₂ ++ looked c line k s base (m - (p + 1)) (p + 1)
+looked_more c line k s base m p v out out₂ whole h e f g =
+    moved_on out (Word v) (looked c line k s base (m - (p + 1)) (p + 1)) (looked c line k s base (m - p) p) whole e
+    (ap (λ (j : ℕ). looked c line k s base j p) (less_one m p h) ∙ ap (λ (x : ℕ). Word x ∷ looked c line k s base (m - (p + 1)) (p + 1)) (sym f))
+    ∙ ap (λ (l : List Answer). l ++ looked c line k s base (m - (p + 1)) (p + 1)) (sym g)
+
+-- and none is left
+pub repeated_done : (w n i : ℕ) (out whole : List Answer) → n ≤ i → whole ≡ out ++ repeated w (n - i) → out ≡ whole
+repeated_done w n i out whole h e = sym (e ∙ ap (λ (k : ℕ). out ++ repeated w k) (none_left n i h) ∙ append-nil out)
+
+pub looked_done : (c : Shape) (line k : ℕ) (s : Shown) (base m p : ℕ) (out whole : List Answer) → m ≤ p → whole ≡ out ++ looked c line k s base (m - p) p → out ≡ whole
+looked_done c line k s base m p out whole h e = sym (e ∙ ap (λ (j : ℕ). out ++ looked c line k s base j p) (none_left m p h) ∙ append-nil out)
+
+-- the words of a row that is drawn, where no cursor stands
+pub lit_words : (c : Shape) (q : Option (ℕ × ℕ)) (irq : Bool) (n : ℕ) (k : Core) → k.armed ≡ true → k.dark ≡ false → vrtc c k ≡ false → k.column + n ≤ c.h
+    → ((p : ℕ) → k.column ≤ p → p < k.column + n → cursor_in q k.row p ≡ false)
+    → looked c k.line k.blink k.shown (0x100 * line_count c k.line + 0x800000 * bit irq) n k.column ≡ idle_words c q irq n k
+lit_words c q irq zero k a d v h away = refl
+lit_words c q irq (suc n) k a d v h away =
+    let e : hrtc c k ≡ false = grind (arith, nat_tests) in
+    let w = word_by_look c k.line k.blink (column_cell k.shown k.column) in
+    let p : pictured c q k ≡ cell_word c k.line k.blink false (column_cell k.shown k.column) = rw (a, d, v, e, away k.column (omega arith) (omega arith)) refl in
+    let first : look c k.line k.blink (column_cell k.shown k.column) + (0x100 * line_count c k.line + 0x800000 * bit irq) ≡ pictured c q k + 0x800000 * bit irq = omega arith in
+    ap (λ (x : ℕ). Word x ∷ looked c k.line k.blink k.shown (0x100 * line_count c k.line + 0x800000 * bit irq) n (k.column + 1)) first
+    ∙ ap (λ (l : List Answer). Word (pictured c q k + 0x800000 * bit irq) ∷ l) (lit_words c q irq n (idled 1 k) a d v (omega arith) (λ x l u. away x (omega arith) (omega arith)))
+
+unlit : (a d v h : Bool) → ((a && (not d && not v)) ≡ false) ⊎ (h ≡ true) → (a && (not d && (not v && not h))) ≡ false
+unlit true true v h p = refl
+unlit true false true h p = refl
+unlit true false false true p = refl
+unlit true false false false (inl p) = p
+unlit true false false false (inr p) = sym p
+unlit false d v h p = refl
+
+-- the words of clocks that are dark, all in retrace or all before it
+pub dark_words : (c : Shape) (q : Option (ℕ × ℕ)) (irq : Bool) (h : Bool) (n : ℕ) (k : Core) → ((k.armed && (not k.dark && not (vrtc c k))) ≡ false) ⊎ (h ≡ true)
+    → ((p : ℕ) → k.column ≤ p → p < k.column + n → leb c.h p ≡ h)
+    → repeated (dark_word (line_count c k.line) h (vrtc c k) + 0x800000 * bit irq) n ≡ idle_words c q irq n k
+dark_words c q irq h zero k u side = refl
+dark_words c q irq h (suc n) k u side =
+    let e : hrtc c k ≡ h = side k.column (omega arith) (omega arith) in
+    let p : pictured c q k ≡ dark_word (line_count c k.line) h (vrtc c k) = rw (e, unlit k.armed k.dark (vrtc c k) h u) refl in
+    ap (λ (x : ℕ). Word (x + 0x800000 * bit irq) ∷ repeated (dark_word (line_count c k.line) h (vrtc c k) + 0x800000 * bit irq) n) (sym p)
+    ∙ ap (λ (l : List Answer). Word (pictured c q k + 0x800000 * bit irq) ∷ l) (dark_words c q irq h n (idled 1 k) u (λ x l b. side x (omega arith) (omega arith)))
+
+never : false ≡ true → ⊥
+never e = let z : ◌≡◌ {A = ℕ} 0 1 = cc in omega arith
+
+lit_parts : (a d v h : Bool) → (a && (not d && (not v && not h))) ≡ true → (a ≡ true) × (d ≡ false) × (v ≡ false) × (h ≡ false)
+lit_parts true true v h p = absurd (never p)
+lit_parts true false true h p = absurd (never p)
+lit_parts true false false true p = absurd (never p)
+lit_parts true false false false p = (refl, refl, refl, refl)
+lit_parts false d v h p = absurd (never p)
+
+unlit_parts : (a d v h : Bool) → (a && (not d && (not v && not h))) ≡ false → ((a && (not d && not v)) ≡ false) ⊎ (h ≡ true)
+unlit_parts a d v true p = inr refl
+unlit_parts true true v false p = inl refl
+unlit_parts true false true false p = inl refl
+unlit_parts true false false false p = inl p
+unlit_parts false d v false p = inl refl
+
+-- what is put out where the clocks are lit, and where they are dark
+pub put_lit : (c : Shape) (q : Option (ℕ × ℕ)) (irq : Bool) (n : ℕ) (k : Core) (count v : ℕ) (out out₂ : List Answer) → lit c k ≡ true
+    → (k.column < c.h → k.column + n ≤ c.h) → ((p : ℕ) → k.column ≤ p → p < k.column + n → cursor_in q k.row p ≡ false)
+    → count ≡ line_count c k.line → v ≡ bit irq → out₂ ≡ out ++ looked c k.line k.blink k.shown (0x100 * count + 0x800000 * v) n k.column → out₂ ≡ out ++ idle_words c q irq n k
+put_lit c q irq n k count v out out₂ l side away f g o =
+    let parts = lit_parts k.armed k.dark (vrtc c k) (hrtc c k) l in
+    let inside : k.column < c.h = let h = parts.3 in grind (arith, nat_tests) in
+    o ∙ (rw (f, g) (ap (λ (ws : List Answer). out ++ ws) (lit_words c q irq n k parts.0 parts.1 parts.2 (side inside) away)))
+
+pub put_dark : (c : Shape) (q : Option (ℕ × ℕ)) (irq : Bool) (n : ℕ) (k : Core) (w v : ℕ) (out out₂ : List Answer) → lit c k ≡ false
+    → (k.column < c.h → k.column + n ≤ c.h) → w ≡ dark_word (line_count c k.line) (hrtc c k) (vrtc c k) → v ≡ bit irq
+    → out₂ ≡ out ++ repeated (w + 0x800000 * v) n → out₂ ≡ out ++ idle_words c q irq n k
+put_dark c q irq n k w v out out₂ l side e g o =
+    let same : (p : ℕ) → k.column ≤ p → p < k.column + n → leb c.h p ≡ hrtc c k =
+    λ p b u.
+    ⊎_elim
+    (λ (z : k.column < c.h). let s = side z in grind (arith, nat_tests))
+    (λ (z : c.h ≤ k.column). grind (arith, nat_tests))
+    (cases_lt k.column c.h) in
+    o ∙ (rw (e, g) (ap (λ (ws : List Answer). out ++ ws) (dark_words c q irq (hrtc c k) n k (unlit_parts k.armed k.dark (vrtc c k) (hrtc c k) l) same)))

@@ -1,0 +1,44 @@
+-- Where the looks are at hand, the column's word is its look with the line count.
+use Rattle.std.proofs.Common.{◌≡◌, ℕ, ◌+◌, ◌*◌, ◌<◌, Bool, true, false, not, ◌||◌, leb, Some, sym, refl, ap, ◌∙◌, arith}
+use Rattle.std.proofs.lemmas.Bool.Decides.{nat_tests}
+use Rattle.video.specs.Composition.{shape_of, line_count}
+use Rattle.video.specs.Picture.{scan_line, look, cell_word}
+use Rattle.video.specs.declared.scan.ScanLine.{ScanLine}
+use Rattle.video.proofs.Looks.{word_by_look, look_small}
+use Rattle.rows.specs.Buffer.{column_cell}
+use Rattle.rows.specs.Model.{shown_of}
+use Rattle.console.proofs.raster.Raster.column_word.Goals as goal
+
+at_hand : (a b d : Bool) → (a || (b || not d)) ≡ false → (a ≡ false) × (b ≡ false) × (d ≡ true)
+at_hand a b d e = (grind (arith, nat_tests), grind (arith, nat_tests), grind (arith, nat_tests))
+
+-- the look at hand is that of the column
+found : (c : goal.After-line_count) → c.of_column.result ≡ look (shape_of c.args.composition.now) c.args.self.now.line c.args.self.now.blink (column_cell (shown_of c.args.self.now.shown) c.args.self.now.column)
+found c =
+    let r = c.args.self.now in
+    let h = at_hand c.args.here (leb 80 r.column) c.are_of.result c.if-here-self.false in
+    let outside = h.1 in
+    let in_row : r.column < 80 = grind (arith, nat_tests) in
+    c.of_column.ensures in_row ∙ r.drawn (shape_of c.args.composition.now) r.line r.blink r.column in_row (c.are_of.ensures.only_then h.2 ∙ ap Some c.new-line.ensures)
+
+pub returns : goal.returns
+returns c =
+    let r = c.args.self.now in
+    let sh = shape_of c.args.composition.now in
+    let x = column_cell (shown_of r.shown) r.column in
+    let h = at_hand c.args.here (leb 80 r.column) c.are_of.result c.if-here-self.false in
+    let e = found c in
+    let n = c.line_count.ensures in
+    let w = word_by_look sh r.line r.blink x in
+    let s = look_small sh r.line r.blink x in
+    let k = c.line_count.type_inv in
+    let is : c.of_column.result + 256 * c.line_count.result ≡ cell_word sh r.line r.blink false x = omega arith in
+    record { is = is ∙ (rw h.0); small = omega arith }
+
+pub overflow_add-result : goal.overflow_add-result
+overflow_add-result c =
+    let r = c.args.self.now in
+    let e = found c in
+    let s = look_small (shape_of c.args.composition.now) r.line r.blink (column_cell (shown_of r.shown) r.column) in
+    let k = c.line_count.type_inv in
+    omega arith
