@@ -1,2 +1,3 @@
 mod Numerals
 mod Others
+mod Spans

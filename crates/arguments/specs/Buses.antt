@@ -1,6 +1,7 @@
 -- The bus between the page and the console.
-use Rattle.std.specs.Prelude.{ℕ, Bool, cond, List, length, Some, None, codes, Option, ◌==◌}
+use Rattle.std.specs.Prelude.{ℕ, Bool, cond, List, [], ◌∷◌, length, Some, None, codes, Option, ◌==◌}
 use Rattle.std.specs.Str.{bytes_eq}
+use Rattle.source.specs.declared.stalls.Span.{Span}
 use Rattle.arguments.specs.declared.bus.Bus.{Bus}
 use Rattle.arguments.specs.declared.bus.Bus.TheVariants.{Free, Turns, Spans}
 use Rattle.arguments.specs.Numbers.{before, front, behind, pair_of}
@@ -34,3 +35,34 @@ by_kind k t = cond (bytes_eq k (codes "turns")) (turns_of t) (cond (bytes_eq k (
 -- the kind, and behind a colon its figures
 abbrev pub bus_of : List ℕ → Option Line
 bus_of t = cond (bytes_eq t (codes "free")) (Some free_line) (cond (before 58 t == length t) None (by_kind (front 58 t) (behind 58 t)))
+
+-- c in front of the first of some pieces
+abbrev pub in_front : ℕ → List (List ℕ) → List (List ℕ)
+in_front c [] = (c ∷ []) ∷ []
+in_front c (p ∷ ps) = (c ∷ p) ∷ ps
+
+-- the pieces of a text, cut at each mark
+abbrev pub pieces : (mark : ℕ) → List ℕ → List (List ℕ)
+pieces m [] = [] ∷ []
+pieces m (c ∷ cs) = cond (c == m) ([] ∷ pieces m cs) (in_front c (pieces m cs))
+
+abbrev pub one_span : Option (ℕ × ℕ) → Option Span
+one_span None = None
+one_span (Some p) = Some (record { first = p.0; length = p.1 })
+
+-- a first clock, a plus and a length
+abbrev pub span_of : List ℕ → Option Span
+span_of t = one_span (pair_of 43 4294967295 t)
+
+abbrev pub span_before : Option Span → Option (List Span) → Option (List Span)
+span_before None ss = None
+span_before (Some s) None = None
+span_before (Some s) (Some ss) = Some (s ∷ ss)
+
+abbrev pub spans_in : List (List ℕ) → Option (List Span)
+spans_in [] = Some []
+spans_in (p ∷ ps) = span_before (span_of p) (spans_in ps)
+
+-- spans with a comma between two of them, or none where one is malformed
+abbrev pub spans_of : List ℕ → Option (List Span)
+spans_of t = spans_in (pieces 44 t)

@@ -1,7 +1,7 @@
 // The bus between the page and the console.
-ghost use Rattle.std.specs.Prelude.{◌≡◌, ℕ};
+ghost use Rattle.std.specs.Prelude.{◌≡◌, ℕ, IfOk, Some, None, MatchOption};
 ghost use Rattle.std.specs.Str.{bytes_eq};
-ghost use Rattle.arguments.specs.Buses.{lined, turns_of, bus_of};
+ghost use Rattle.arguments.specs.Buses.{lined, turns_of, bus_of, span_of, spans_of};
 
 use crate::numbers::{before, behind, pair};
 use source::Span;
@@ -50,16 +50,26 @@ pub fn read_bus(text: &[u8]) -> Option<Bus<'_>>
     None
 }
 
-// Spans of clocks, a comma between two of them, each as its first clock, a plus and its length.
-pub fn read_spans(heap: Global, text: &[u8]) -> Result<Option<Vec<Span>>, AllocError> {
+// The first clock of a span, a plus and its length.
+fn span(text: &[u8]) -> Option<Span>
+    ensures { result ≡ span_of text.now }
+{
+    let (first, length) = pair(text, b'+', 4_294_967_295)?;
+    Some(Span { first, length })
+}
+
+// Spans of clocks, a comma between two of them.
+pub fn read_spans(heap: Global, text: &[u8]) -> Result<Option<Vec<Span>>, AllocError>
+    ensures { IfOk result (λ o. MatchOption o (spans_of text.now ≡ None) (λ v. spans_of text.now ≡ Some v.items)) }
+{
     let mut spans = Vec::new(heap);
     let mut rest = text;
     loop {
         let comma = before(rest, b',');
-        let Some((first, length)) = pair(&rest[..comma], b'+', 4_294_967_295) else {
+        let Some(span) = span(&rest[..comma]) else {
             return Ok(None);
         };
-        spans.push(Span { first, length })?;
+        spans.push(span)?;
         if comma == rest.len() {
             return Ok(Some(spans));
         }

@@ -1,9 +1,13 @@
 // The program `screen` with another example: an encoder for key cards holds the bus.
 #![tactic(auto)]
 
-use viewer::failure::Failure;
+use std::process::ExitCode;
 use viewer::run;
 
-fn main(rt: HostRuntime) -> Result<(), Failure> {
-    run(&rt)
+// What failed was said on standard error.
+fn main(rt: HostRuntime) -> ExitCode {
+    match run(&rt) {
+        Ok(()) => ExitCode::SUCCESS,
+        Err(_) => ExitCode::FAILURE,
+    }
 }

@@ -48,7 +48,8 @@ pub fn trimmed(text: &[u8]) -> &[u8]
     &text[0..end]
 }
 
-fn digit(value: u32) -> u8
+// A digit, 0 to 9 and A to F.
+pub fn digit(value: u32) -> u8
     requires { value < 16 }
     ensures { result ≡ upper value }
 {

@@ -1,9 +1,13 @@
 // Lists the rows of a page of screen bytes as the tube would show them.
 #![tactic(auto)]
 
-use viewer::failure::Failure;
+use std::process::ExitCode;
 use viewer::run;
 
-fn main(rt: HostRuntime) -> Result<(), Failure> {
-    run(&rt)
+// What failed was said on standard error.
+fn main(rt: HostRuntime) -> ExitCode {
+    match run(&rt) {
+        Ok(()) => ExitCode::SUCCESS,
+        Err(_) => ExitCode::FAILURE,
+    }
 }

@@ -2,6 +2,7 @@
 use crate::help::USAGE;
 use arguments::fault::ArgumentFault;
 use refusal::Refusal;
+use sheet::stop::Stop;
 use std::alloc::{AllocError, AllocFailed};
 use std::{fmt, io};
 
@@ -37,6 +38,15 @@ impl fmt::Display for Failure {
 impl From<ArgumentFault> for Failure {
     fn from(fault: ArgumentFault) -> Failure {
         Failure::Arguments(fault)
+    }
+}
+
+impl From<Stop> for Failure {
+    fn from(stop: Stop) -> Failure {
+        match stop.row {
+            Some(row) => Failure::RowRefused(row, stop.refusal),
+            None => Failure::Refused(stop.refusal),
+        }
     }
 }
 

@@ -1,8 +1,8 @@
 // What the program says of itself.
-pub const USAGE: &str =
+pub(crate) const USAGE: &str =
     "usage: screen COMPOSITION START PAGEFILE [--row J] [--words] [--cursor C,R] [--bus KIND [--frames K]]\n";
 
-pub const HELP: &str = "
+pub(crate) const HELP: &str = "
 Lists the rows of a page of screen bytes as an Intel 8275 would show them.
 
   COMPOSITION   the four parameters of Reset, eight hexadecimal digits

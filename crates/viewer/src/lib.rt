@@ -2,13 +2,10 @@
 #![tactic(auto)]
 
 pub mod failure;
-mod fate;
-mod film;
+mod frames;
 mod help;
-mod picture;
-mod sheet;
 mod show;
-mod watched;
+mod stills;
 
 use crate::failure::Failure;
 use crate::help::{HELP, USAGE};

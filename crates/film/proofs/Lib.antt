@@ -1,0 +1,3 @@
+mod Answered
+mod Lates
+mod FrameLines

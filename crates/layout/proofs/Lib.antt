@@ -1,0 +1,3 @@
+mod Appends
+mod Aligned
+mod Trims

@@ -1,0 +1,3 @@
+mod Shapes
+mod Words
+pub mod Rows

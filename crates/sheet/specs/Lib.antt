@@ -1,0 +1,3 @@
+pub mod Screens
+pub mod Rasters
+pub mod Stills
