@@ -1,0 +1,4 @@
+mod Refused
+mod Performs
+mod Taken
+mod Over

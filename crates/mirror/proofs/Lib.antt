@@ -1,0 +1,3 @@
+mod Fields
+mod Lists
+mod Standing
