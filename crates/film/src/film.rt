@@ -52,4 +52,4 @@ impl Film {
     }
 }
 
-mod listing;
+mod report;

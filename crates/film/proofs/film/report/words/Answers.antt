@@ -1,6 +1,6 @@
 use Rattle.std.proofs.Common.{vec_items, sym, ◌∙◌}
 use Rattle.film.proofs.Answered.{words_more, words_end}
-use Rattle.film.proofs.film.listing.words.Goals as goal
+use Rattle.film.proofs.film.report.words.Goals as goal
 
 pub loop-answer-preserved : goal.loop-answer-preserved
 loop-answer-preserved c =

@@ -1,6 +1,6 @@
 use Rattle.std.proofs.Common.{◌≡◌, ◌++◌, drop, vec_items}
 use Rattle.frame.specs.History.{words}
-use Rattle.film.proofs.film.listing.words.Given as goal
+use Rattle.film.proofs.film.report.words.Given as goal
 
 -- those so far and those still to come are all
 abbrev pub invariant-loop-answer : goal.invariant-loop-answer
