@@ -14,7 +14,7 @@ use Rattle.frame.specs.Ports.{Bursts, Core, State, new, command_refusal, paramet
 use Rattle.frame.specs.Timing.{line_clocks, span, total, overdue, late, in_time, requested}
 use Rattle.frame.specs.Machine.{clock_state, clock_source, clock_word}
 use Rattle.frame.specs.History.{Moment, clocked_by, source_by, word_by, stroke_answer, done, call_state, call_source, call_answer, after, answers, words}
-use Rattle.frame.specs.Law.{at_start, Ready, Alike, QuietCall, Quiet, clock_count, clocks, Found_at, FoundBy, Found, rest_by, picture_bits, request_bit, place, Played, Equal, Law, FrameLaw}
+use Rattle.frame.specs.Law.{at_start, Ready, Alike, QuietCall, Quiet, clock_count, clocks, FoundAt, FoundBy, Found, rest_by, picture_bits, request_bit, place, Played, Equal, Law, FrameLaw}
 use Rattle.frame.proofs.Takes.{takes_mono}
 use Rattle.frame.proofs.Frames.{line_clocks_is, span_is, total_is}
 use Rattle.frame.proofs.Sound.{history_proper}
@@ -65,7 +65,7 @@ first_or_later c b q page free blink t n w e ws now y (suc i) h j l p hl hp g =
 
 tick :
     (c : Shape) (b : Bursts) (q : Option (ℕ × ℕ)) (page : List ℕ) (free : ℕ → Bool) (blink : ℕ) (es : List Moment) → Proper c → Walks c b q page free blink es
-    → (t : ℕ) (rest : List ℕ) (s : State) (m : Meaning) → At c b q page free blink t rest s → Quiet es (clock_state c s m) → Found_at page free t rest m
+    → (t : ℕ) (rest : List ℕ) (s : State) (m : Meaning) → At c b q page free blink t rest s → Quiet es (clock_state c s m) → FoundAt page free t rest m
     → Found page free (1 + t) (clock_source c s m).rest es (clock_state c s m) → t + (1 + clocks es) ≤ total c
     → Walked c b q page free blink t (1 + clocks es) (after es (clock_state c s m)) (clock_word c s ∷ words (answers es (clock_state c s m)))
 tick c b q page free blink es pr ih t rest s m a h now f room =

@@ -7,7 +7,7 @@ use Rattle.frame.specs.declared.call.Call.TheVariants.{Command, Parameter, Statu
 use Rattle.frame.specs.Ports.{State}
 use Rattle.frame.specs.Machine.{Opening, within, frame_start, row_start, opening, begins, ready_source, clock_state, clock_source}
 use Rattle.frame.specs.History.{clocked_by, source_by, call_state, call_source, over}
-use Rattle.frame.specs.Law.{Alike, QuietCall, Quiet, clock_count, Found_at, FoundBy, rest_by, Found}
+use Rattle.frame.specs.Law.{Alike, QuietCall, Quiet, clock_count, FoundAt, FoundBy, rest_by, Found}
 
 -- one source that nothing else alters is found at clock t as its first meaning foretold
 record Foretold (page : List ℕ) (free : ℕ → Bool) (t : ℕ) (rest : List ℕ) (m : Meaning) : Type 0 where
@@ -15,7 +15,7 @@ record Foretold (page : List ℕ) (free : ℕ → Bool) (t : ℕ) (rest : List �
   free_is : (i : ℕ) → m.free i ≡ free (t + i)
   rest_is : 0 < t → m.rest ≡ rest
 
-found_here : (page : List ℕ) (free : ℕ → Bool) (t : ℕ) (rest : List ℕ) (m : Meaning) → Foretold page free t rest m → Found_at page free t rest m
+found_here : (page : List ℕ) (free : ℕ → Bool) (t : ℕ) (rest : List ℕ) (m : Meaning) → Foretold page free t rest m → FoundAt page free t rest m
 found_here page free zero rest m f = (f.free_is 0 ∙ ap free (omega arith), f.page_is)
 found_here page free (suc t) rest m f = (f.free_is 0 ∙ ap free (omega arith), f.rest_is (omega arith))
 

@@ -21,7 +21,7 @@ use Rattle.frame.specs.Ports.{Bursts, Core, State}
 use Rattle.frame.specs.Timing.{line_clocks, span, total, in_time, requested}
 use Rattle.frame.specs.Machine.{Opening, within, frame_start, row_start, opening, idle, prepared, begins, wants, pictured, word, fed, Turn, in_line, new_line, new_row, new_frame, turn, moved, requests, ready_core, ready_source, fed_core, next_core, clock_state, clock_source, clock_word}
 use Rattle.frame.specs.History.{Moment, clocked_by, source_by, word_by, stroke_answer, done, call_state, call_source, call_answer, after, answers, words}
-use Rattle.frame.specs.Law.{at_start, Ready, Alike, QuietCall, Quiet, clock_count, clocks, Found_at, FoundBy, Found, rest_by, picture_bits, request_bit}
+use Rattle.frame.specs.Law.{at_start, Ready, Alike, QuietCall, Quiet, clock_count, clocks, FoundAt, FoundBy, Found, rest_by, picture_bits, request_bit}
 use Rattle.frame.proofs.Filling.{began}
 use Rattle.frame.proofs.Frames.{Good, Says, turn_says, stepped, line_clocks_is, span_is, total_is, row_end, next, requests_it, shows_row, shows_dark, shows_retrace}
 
@@ -145,7 +145,7 @@ begun_at c s page free p r =
 -- what a clock reads of its source
 pub source_is :
     (c : Shape) (b : Bursts) (q : Option (ℕ × ℕ)) (page : List ℕ) (free : ℕ → Bool) (blink t : ℕ) (rest : List ℕ) (s : State) (m : Meaning)
-    → At c b q page free blink t rest s → t < total c → Found_at page free t rest m
+    → At c b q page free blink t rest s → t < total c → FoundAt page free t rest m
     → ((ready_source s m).free 0 ≡ free t) × ((ready_source s m).rest ≡ rest_at t page rest)
 unfolding ready_source
 source_is c b q page free blink zero rest s m a lt f = rw (opens_frame s.core (a.first refl), a.enabled) (f.0, f.1)
@@ -198,7 +198,7 @@ not_start c b page free blink t ve u o k rest g =
 -- one clock of the frame
 pub clock_on :
     (c : Shape) (b : Bursts) (q : Option (ℕ × ℕ)) (page : List ℕ) (free : ℕ → Bool) (blink t : ℕ) (rest : List ℕ) (s : State) (m : Meaning)
-    → At c b q page free blink t rest s → t < total c → Found_at page free t rest m
+    → At c b q page free blink t rest s → t < total c → FoundAt page free t rest m
     → At c b q page free blink (suc t) (clock_source c s m).rest (clock_state c s m)
 unfolding clock_source clock_state next_core fed_core
 clock_on c b q page free blink t rest s m a lt f =

@@ -55,9 +55,9 @@ clocks [] = 0
 clocks (e ∷ es) = clock_count e.call + clocks es
 
 -- what clock t of the frame finds: the bus as `free` says; the page at the first clock, and then the rest that the clock before left
-abbrev pub Found_at : (page : List ℕ) (free : ℕ → Bool) (t : ℕ) (rest : List ℕ) → Meaning → Type 0
-Found_at page free zero rest m = (m.free 0 ≡ free 0) × (m.page ≡ page)
-Found_at page free (suc t) rest m = (m.free 0 ≡ free (suc t)) × (m.rest ≡ rest)
+abbrev pub FoundAt : (page : List ℕ) (free : ℕ → Bool) (t : ℕ) (rest : List ℕ) → Meaning → Type 0
+FoundAt page free zero rest m = (m.free 0 ≡ free 0) × (m.page ≡ page)
+FoundAt page free (suc t) rest m = (m.free 0 ≡ free (suc t)) × (m.rest ≡ rest)
 
 abbrev pub FoundBy : Call → (page : List ℕ) (free : ℕ → Bool) (t : ℕ) (rest : List ℕ) → Meaning → Type 0
 FoundBy (Command b) page free t rest m = Unit {0}
@@ -65,7 +65,7 @@ FoundBy (Parameter b) page free t rest m = Unit {0}
 FoundBy Status page free t rest m = Unit {0}
 FoundBy Read page free t rest m = Unit {0}
 FoundBy Stroke page free t rest m = Unit {0}
-FoundBy Clock page free t rest m = Found_at page free t rest m
+FoundBy Clock page free t rest m = FoundAt page free t rest m
 
 abbrev pub rest_by : Call → (rest : List ℕ) → Meaning → List ℕ
 rest_by (Command b) rest m = rest

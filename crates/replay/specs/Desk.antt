@@ -7,7 +7,7 @@ use Rattle.frame.specs.declared.call.Call.TheVariants.{Clock}
 use Rattle.frame.specs.declared.call.Answer.{Answer}
 use Rattle.frame.specs.declared.call.Answer.TheVariants.{Done}
 use Rattle.frame.specs.Ports.{State}
-use Rattle.frame.specs.Ports.{new as new-console}
+use Rattle.frame.specs.Ports.{new as new_console}
 use Rattle.frame.specs.History.{after, answers, over, source_after}
 use Rattle.replay.specs.declared.faults.Fault.{Fault}
 use Rattle.replay.specs.declared.requests.Request.{Request}
@@ -22,7 +22,7 @@ pub record Desk : Type 0 where
   pub closed : Bool
 
 abbrev pub new_desk : Desk
-new_desk = record { console = new-console; source = filled [] always; page = []; closed = false }
+new_desk = record { console = new_console; source = filled [] always; page = []; closed = false }
 
 -- calls close the page
 abbrev pub called : List Call → Desk → Desk

@@ -10,7 +10,7 @@ use Rattle.frame.specs.Ports.{State}
 use Rattle.console.specs.Answers.{WindowOf}
 use Rattle.listing.specs.Words.{word_lines}
 use Rattle.layout.specs.Lines.{under, still_heading, still_figures, pictured}
-use Rattle.sheet.specs.Stills.{bytes_of, still_words, still-margin, row_rest, Listed-row, counted_row, tally, with_row, with_rows, NextRow, with_words}
+use Rattle.sheet.specs.Stills.{bytes_of, still_words, still_margin, row_rest, ListedRow, counted_row, tally, with_row, with_rows, NextRow, with_words}
 use Rattle.sheet.specs.declared.tally.Tally.{Tally}
 
 not_too_long : (b : Bool) (r : Refusal) (e : Option Refusal) → cond b (Some r) e ≡ None → b ≡ false
@@ -32,7 +32,7 @@ behind_heading o u f t p q =
 
 pub row_listed : (c : Shape) (s : State) (page : List ℕ) (j place : ℕ) (part still o o₁ o₂ : List ℕ) → s.shape ≡ Some c → WindowOf s page j place part
     → still ≡ still_words c s page j → o₁ ≡ o ++ (under still_heading o ++ still_figures j place (length part))
-    → o₂ ≡ o₁ ++ row_rest (length part) (pictured still-margin c still) → Listed-row c s page j (length part) o o₂
+    → o₂ ≡ o₁ ++ row_rest (length part) (pictured still_margin c still) → ListedRow c s page j (length part) o o₂
 row_listed c s page j place part still o o₁ o₂ e w t p q =
     let v : Windowed c s.control.bursts.n page j place part = rw e at w in
     let k : length part ≡ length (bytes_of c s page j) = ap length v.takes in
@@ -40,7 +40,7 @@ row_listed c s page j place part still o o₁ o₂ e w t p q =
       taken = k;
       few = let z = short_window c s.control.bursts.n page j (short_page c s.control.bursts.n page j v.granted) in omega arith;
       lines =
-          behind_heading o (under still_heading o) (still_figures j place (length part)) (row_rest (length part) (pictured still-margin c still)) p q
+          behind_heading o (under still_heading o) (still_figures j place (length part)) (row_rest (length part) (pictured still_margin c still)) p q
           ∙ ap (λ (x : List ℕ). o ++ (under still_heading o ++ x)) (rw (v.begins, k, t) refl);
     }
 

@@ -21,8 +21,8 @@ unfoldable pub still_words : Shape → State → (page : List ℕ) → (row : �
 still_words c s page j =
     columns_from (λ i. picture c s.control.bursts.n page s.cursor s.core.blink j (i / width c) (i % width c)) 0 (c.l * width c)
 
-abbrev pub still-margin : List ℕ
-still-margin = 10 ∷ replicate 19 32
+abbrev pub still_margin : List ℕ
+still_margin = 10 ∷ replicate 19 32
 
 -- what stands behind the figures of a row: its picture, if it takes bytes
 abbrev pub row_rest : (taken : ℕ) → (picture : List ℕ) → List ℕ
@@ -32,10 +32,10 @@ row_rest n p = cond (n == 0) (codes "  (past the end of the screen)\n") p
 abbrev pub row_lines : Shape → State → (page : List ℕ) → (row : ℕ) → List ℕ
 row_lines c s page j =
     still_figures j (place_of c s page j) (length (bytes_of c s page j))
-    ++ row_rest (length (bytes_of c s page j)) (pictured still-margin c (still_words c s page j))
+    ++ row_rest (length (bytes_of c s page j)) (pictured still_margin c (still_words c s page j))
 
 -- row j takes n bytes, and its lines were written behind `out`, which became `out₂`
-pub record Listed-row (c : Shape) (s : State) (page : List ℕ) (j n : ℕ) (out out₂ : List ℕ) : Type 0 where
+pub record ListedRow (c : Shape) (s : State) (page : List ℕ) (j n : ℕ) (out out₂ : List ℕ) : Type 0 where
   pub taken : n ≡ length (bytes_of c s page j)
   pub few : n ≤ 16384
   pub lines : out₂ ≡ out ++ (under still_heading out ++ row_lines c s page j)

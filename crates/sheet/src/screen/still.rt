@@ -6,7 +6,7 @@ ghost use Rattle.console.specs.Model.{state_of};
 ghost use Rattle.listing.specs.Words.{word_lines};
 ghost use Rattle.layout.specs.Lines.{pictured, under, still_heading};
 ghost use Rattle.sheet.specs.Screens.{Composed, RefusedRow, StoppedRow, Stopped, StoppedAlone};
-ghost use Rattle.sheet.specs.Stills.{still_words, row_rest, still-margin, Listed-row, blank_lines, tally, with_rows, NextRow, with_words, closed, still_listing, alone_listing};
+ghost use Rattle.sheet.specs.Stills.{still_words, row_rest, still_margin, ListedRow, blank_lines, tally, with_rows, NextRow, with_words, closed, still_listing, alone_listing};
 
 use crate::screen::Screen;
 use crate::stop::Stop;
@@ -74,7 +74,7 @@ impl Screen {
     ) -> Result<usize, Refusal>
         requires { Composed self.now }
         ensures { MatchResult result
-            (λ n. Listed-row (shape_of self.now.composition) (state_of self.now.console) page.now row n
+            (λ n. ListedRow (shape_of self.now.composition) (state_of self.now.console) page.now row n
             out.old.items out.new.items)
             (λ e. StoppedRow self.now page.now row e out.old.items out.new.items) }
     {
@@ -95,7 +95,7 @@ impl Screen {
         out: &mut Vec<u8>,
     ) -> Result<(), AllocError>
         ensures { OnOk result (out.new.items ≡ out.old.items
-            ++ row_rest taken (pictured still-margin (shape_of self.now.composition) still.now)) }
+            ++ row_rest taken (pictured still_margin (shape_of self.now.composition) still.now)) }
     {
         if taken == 0 {
             out.extend_from_slice(b"  (past the end of the screen)\n")?;
