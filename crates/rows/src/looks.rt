@@ -1,10 +1,6 @@
 // The looks of a row's columns, worked out once for all lines of a kind.
-ghost use Rattle.std.specs.Prelude.{◌≡◌, ◌<◌, true, Some, None, length, slice_index};
-ghost use Rattle.video.specs.Composition.{shape_of};
-ghost use Rattle.video.specs.Picture.{scan_line};
+ghost use Rattle.std.specs.Prelude.{◌≡◌, length};
 
-use crate::state::Showing;
-use video::composition::Composition;
 use video::scan::ScanLine;
 
 #[derive(Clone, Copy)]

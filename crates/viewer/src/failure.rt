@@ -44,8 +44,11 @@ impl From<ArgumentFault> for Failure {
 impl From<Stop> for Failure {
     fn from(stop: Stop) -> Failure {
         match stop.row {
-            Some(row) => Failure::RowRefused(row, stop.refusal),
-            None => Failure::Refused(stop.refusal),
+            // want of memory is not the row's
+            Some(row) if stop.refusal != Refusal::OutOfMemory => {
+                Failure::RowRefused(row, stop.refusal)
+            }
+            _ => Failure::Refused(stop.refusal),
         }
     }
 }

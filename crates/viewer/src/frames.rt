@@ -9,22 +9,8 @@ use film::film::Film;
 use film::watched::Watched;
 use refusal::Refusal;
 use sheet::screen::Screen;
-use source::{FreeBus, Source, Span, SpanBus, TurnBus};
-use std::alloc::Global;
+use source::{FreeBus, Source, SpanBus, TurnBus};
 use std::io::Write;
-
-// The spans of a bus, none where it has no such figures.
-pub(crate) fn spans(heap: Global, playing: Option<Playing>) -> Result<Vec<Span>, Failure> {
-    if let Some(playing) = playing {
-        if let Bus::Spans(text) = playing.bus {
-            let Some(spans) = read_spans(heap, text)? else {
-                return Err(Failure::Arguments(ArgumentFault::BadBus));
-            };
-            return Ok(spans);
-        }
-    }
-    Ok(Vec::new(heap))
-}
 
 fn play<S: Source + Drop>(
     rt: &HostRuntime,
@@ -61,7 +47,6 @@ pub(crate) fn show_frames(
     rt: &HostRuntime,
     request: Request,
     playing: Playing,
-    spans: &[Span],
     page: &[u8],
 ) -> Result<(), Failure> {
     let heap = rt.alloc();
@@ -82,9 +67,12 @@ pub(crate) fn show_frames(
             source.make(heap, page, free, busy)?;
             play(rt, request, screen, playing.frames, page, source)
         }
-        Bus::Spans(_) => {
+        Bus::Spans(text) => {
+            let Some(spans) = read_spans(heap, text)? else {
+                return Err(Failure::Arguments(ArgumentFault::BadBus));
+            };
             let mut source = SpanBus::new(heap);
-            source.make(heap, page, spans)?;
+            source.make(heap, page, spans.as_slice())?;
             play(rt, request, screen, playing.frames, page, source)
         }
     }

@@ -47,9 +47,9 @@ impl Looks {
         }
     }
 
-    // The look of a column, where they are at hand.
+    // The look of a column, where they are at hand; a row has no column from 80 on.
     pub fn of_column(&self, p: u8) -> u32
-        ensures { p < 80 → result ≡ slice_index self.now.columns p }
+        ensures { result ≡ slice_index self.now.columns p }
     {
         if p < 80 { self.columns[p as usize] } else { 0 }
     }

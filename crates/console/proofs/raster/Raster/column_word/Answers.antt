@@ -19,7 +19,7 @@ found c =
     let h = at_hand c.args.here (leb 80 r.column) c.are_of.result c.if-here-self.false in
     let outside = h.1 in
     let in_row : r.column < 80 = grind (arith, nat_tests) in
-    c.of_column.ensures in_row ∙ r.drawn (shape_of c.args.composition.now) r.line r.blink r.column in_row (c.are_of.ensures.only_then h.2 ∙ ap Some c.new-line.ensures)
+    c.of_column.ensures ∙ r.drawn (shape_of c.args.composition.now) r.line r.blink r.column in_row (c.are_of.ensures.only_then h.2 ∙ ap Some c.new-line.ensures)
 
 pub returns : goal.returns
 returns c =

@@ -18,7 +18,7 @@ found : (c : goal.After-push_reserved) → c.of_column.result ≡ look (shape_of
 found c =
     let r = c.args.self.now in
     let in_row : c.loop-p.p < 80 = (let a = c.loop-p-test.true in let b = c.requires.row.1.0 in omega arith) in
-    c.of_column.ensures in_row ∙ r.drawn (shape_of c.args.composition.now) r.line r.blink c.loop-p.p in_row c.requires.row.0
+    c.of_column.ensures ∙ r.drawn (shape_of c.args.composition.now) r.line r.blink c.loop-p.p in_row c.requires.row.0
 
 pub loop-p-init : goal.loop-p-init
 loop-p-init c =
@@ -32,7 +32,7 @@ pub overflow_add-of_column : goal.overflow_add-of_column
 overflow_add-of_column c =
     let r = c.args.self.now in
     let in_row : c.loop-p.p < 80 = (let a = c.loop-p-test.true in let b = c.requires.row.1.0 in omega arith) in
-    let e = c.of_column.ensures in_row ∙ r.drawn (shape_of c.args.composition.now) r.line r.blink c.loop-p.p in_row c.requires.row.0 in
+    let e = c.of_column.ensures ∙ r.drawn (shape_of c.args.composition.now) r.line r.blink c.loop-p.p in_row c.requires.row.0 in
     let s = look_small (shape_of c.args.composition.now) r.line r.blink (column_cell (shown_of r.shown) c.loop-p.p) in
     let b = c.requires.row.1.1 in
     omega arith
