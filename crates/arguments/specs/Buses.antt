@@ -1,5 +1,5 @@
 -- The bus between the page and the console.
-use Rattle.std.specs.Prelude.{ℕ, Bool, cond, List, [], ◌∷◌, length, Some, None, codes, Option, ◌==◌}
+use Rattle.std.specs.Prelude.{ℕ, cond, List, [], ◌∷◌, length, Some, None, codes, Option, ◌==◌}
 use Rattle.std.specs.Str.{bytes_eq}
 use Rattle.source.specs.declared.stalls.Span.{Span}
 use Rattle.arguments.specs.declared.bus.Bus.{Bus}

@@ -7,7 +7,6 @@ use Rattle.arguments.specs.declared.figures.ResetParameters.{ResetParameters}
 use Rattle.arguments.specs.declared.request.Awaited.{Awaited}
 use Rattle.arguments.specs.declared.request.Awaited.TheVariants.{Nothing, RowNumber, BusKind, FrameCount, CursorPlace}
 use Rattle.arguments.specs.declared.request.Playing.{Playing}
-use Rattle.arguments.specs.declared.request.Request.{Request}
 use Rattle.arguments.specs.declared.request.Asked.{Asked}
 use Rattle.arguments.specs.declared.request.Asked.TheVariants.{Help as AskedHelp, Listing}
 use Rattle.arguments.specs.declared.request.Draft.{Draft}

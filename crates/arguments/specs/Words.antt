@@ -1,5 +1,5 @@
 -- The words of a command line.
-use Rattle.std.specs.Prelude.{ℕ, Bool, cond, ◌&&◌, List, length, codes, ◌==◌, nat_lt, slice_index}
+use Rattle.std.specs.Prelude.{ℕ, cond, ◌&&◌, List, length, codes, ◌==◌, nat_lt, slice_index}
 use Rattle.std.specs.Str.{bytes_eq}
 use Rattle.arguments.specs.declared.word.Word.{Word}
 use Rattle.arguments.specs.declared.word.Word.TheVariants.{Help, Words, Row, Bus, Frames, Cursor, UnknownOption, Operand}

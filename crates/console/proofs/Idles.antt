@@ -1,10 +1,8 @@
 -- Clocks in which nothing begins and no byte is asked for.
-use Rattle.std.proofs.Common.{◌≡◌, ℕ, zero, suc, ◌+◌, ◌-◌, ◌*◌, ◌<◌, ◌≤◌, Bool, true, false, cond, not, ◌&&◌, ◌||◌, eqb, ltb, leb, ◌⊎◌, List, [], ◌∷◌, ◌++◌, length, get_or, drop, Some, None, Option, sym, refl, ap, ◌∙◌, inl, inr, ⊎_elim, append_assoc, append-nil, add-one, arith}
-use Rattle.std.proofs.lemmas.Bool.{cases_Bool, cases_lt}
+use Rattle.std.proofs.Common.{◌≡◌, ℕ, zero, suc, ◌+◌, ◌-◌, ◌*◌, ◌<◌, ◌≤◌, Bool, true, false, not, ◌&&◌, leb, ◌⊎◌, List, [], ◌∷◌, ◌++◌, Option, sym, refl, ap, ◌∙◌, inl, inr, ⊎_elim, append_assoc, append-nil, arith}
+use Rattle.std.proofs.lemmas.Bool.{cases_lt}
 use Rattle.std.proofs.lemmas.Bool.Decides.{nat_tests}
-use Rattle.source.specs.Meaning.{Meaning, answer, clocked}
-use Rattle.source.specs.Runs.{waited}
-use Rattle.video.specs.Composition.{Shape, width, line_count}
+use Rattle.video.specs.Composition.{Shape, line_count}
 use Rattle.video.specs.Picture.{bit, dark_word, cell_word, look}
 use Rattle.video.proofs.Looks.{word_by_look}
 use Rattle.rows.specs.Buffer.{Shown, column_cell}

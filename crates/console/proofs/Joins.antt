@@ -1,13 +1,12 @@
 -- The parts of a clock, put together from what the raster's functions ensure.
-use Rattle.std.proofs.Common.{◌≡◌, ℕ, suc, ◌+◌, ◌-◌, ◌%◌, ◌<◌, ◌≤◌, Bool, true, false, cond, not, ◌&&◌, ◌||◌, eqb, ltb, leb, Some, None, Option, sym, refl, ap, ◌∙◌, ⊎_elim, add-one, arith}
+use Rattle.std.proofs.Common.{◌≡◌, ℕ, suc, Bool, true, false, cond, ◌&&◌, ◌||◌, eqb, Some, None, Option, sym, refl, ap, ◌∙◌, ⊎_elim, arith}
 use Rattle.std.proofs.lemmas.Bool.{cases_Bool, eqb-true}
-use Rattle.std.proofs.lemmas.Bool.Decides.{nat_tests}
-use Rattle.video.specs.Composition.{Shape, width}
-use Rattle.rows.specs.Buffer.{Buffer, Shown, full, eat, took, nothing, fresh}
+use Rattle.video.specs.Composition.{Shape}
+use Rattle.rows.specs.Buffer.{Buffer, full, eat, took}
 use Rattle.source.specs.Meaning.{Meaning, answer, clocked}
-use Rattle.frame.specs.Ports.{Bursts, Core, State}
+use Rattle.frame.specs.Ports.{Core, State}
 use Rattle.frame.specs.Timing.{pause}
-use Rattle.frame.specs.Machine.{frame_start, row_start, opening, idle, underrun, prepared, begins, wants, word, fed, Turn, in_line, new_line, new_row, new_frame, turn, moved, ready_core, ready_source, fed_core, next_core, next_flags, clock_state, clock_source, clock_word}
+use Rattle.frame.specs.Machine.{frame_start, row_start, underrun, prepared, begins, wants, word, fed, turn, moved, ready_core, ready_source, fed_core, next_core, next_flags, clock_state, clock_source, clock_word}
 use Rattle.console.specs.Steps.{with, du_if, interrupted, frame_opened, row_opened, readied, stored}
 
 taken_eat : (f : Bool) (n : ℕ) (x : Buffer) (a : ℕ) → (eat f n x a).take.taken ≡ suc x.take.taken

@@ -1,15 +1,14 @@
 -- What a loop over calls keeps, and the law for calls over one source.
-use Rattle.std.proofs.Common.{◌≡◌, ℕ, zero, suc, ◌+◌, ◌*◌, ◌<◌, ◌≤◌, Bool, true, false, cond, List, [], ◌∷◌, ◌++◌, length, get_or, drop, Some, None, Ok, Err, Option, Result, sym, refl, ap, ◌∙◌, subst, append_assoc, append-nil, add-one, arith, drop-cons}
+use Rattle.std.proofs.Common.{◌≡◌, ℕ, zero, suc, ◌+◌, ◌<◌, ◌≤◌, List, [], ◌∷◌, ◌++◌, length, get_or, drop, Some, None, Ok, Err, Option, sym, refl, ap, ◌∙◌, subst, append_assoc, append-nil, add-one, arith, drop-cons}
 use Rattle.refusal.specs.declared.Refusal.{Refusal}
 use Rattle.source.specs.Meaning.{Meaning}
 use Rattle.video.specs.Composition.{Shape}
 use Rattle.frame.specs.declared.call.Call.{Call}
-use Rattle.frame.specs.declared.call.Call.TheVariants.{Command, Parameter, Status, Read, Stroke, Clock}
 use Rattle.frame.specs.declared.call.Answer.{Answer}
-use Rattle.frame.specs.declared.call.Answer.TheVariants.{Done, Byte, Word, Refused}
+use Rattle.frame.specs.declared.call.Answer.TheVariants.{Word, Refused}
 use Rattle.frame.specs.Ports.{State, new}
 use Rattle.frame.specs.History.{Moment, word_by, done, stroke_answer, call_state, call_source, call_answer, after, answers, over, source_after, words}
-use Rattle.frame.specs.Law.{Ready, Quiet, Found, clocks, Law, FrameLaw}
+use Rattle.frame.specs.Law.{Ready, Quiet, Found, clocks, Law}
 use Rattle.frame.proofs.Lawful.{frame_law}
 use Rattle.frame.proofs.Threads.{found_over}
 use Rattle.console.specs.Answers.{answer, clock_answer, stroke_refusal}

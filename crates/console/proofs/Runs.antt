@@ -1,5 +1,5 @@
 -- A run of clocks in which nothing begins and no byte is asked for leads where the calls lead one by one.
-use Rattle.std.proofs.Common.{◌≡◌, ℕ, zero, suc, ◌+◌, ◌-◌, ◌*◌, ◌<◌, ◌≤◌, Bool, true, false, cond, not, ◌&&◌, ◌||◌, eqb, ltb, List, [], ◌∷◌, ◌++◌, length, get_or, drop, Some, None, Option, sym, refl, ap, ◌∙◌, ⊎_elim, append_assoc, add-one, arith}
+use Rattle.std.proofs.Common.{◌≡◌, ℕ, zero, suc, ◌+◌, ◌-◌, ◌*◌, ◌≤◌, Bool, true, false, not, ◌&&◌, ◌||◌, eqb, ltb, List, [], ◌∷◌, ◌++◌, drop, Some, None, Option, sym, refl, ap, ◌∙◌, ⊎_elim, append_assoc, add-one, arith}
 use Rattle.std.proofs.lemmas.Bool.{cases_Bool}
 use Rattle.std.proofs.lemmas.Bool.Decides.{nat_tests}
 use Rattle.source.specs.Meaning.{Meaning, answer, clocked}
@@ -7,14 +7,14 @@ use Rattle.source.specs.Runs.{waited}
 use Rattle.source.proofs.Draining.{wait_none, wait_first}
 use Rattle.video.specs.Composition.{Shape, width}
 use Rattle.video.specs.Picture.{bit}
-use Rattle.rows.specs.Buffer.{Buffer, full}
+use Rattle.rows.specs.Buffer.{full}
 use Rattle.frame.specs.declared.call.Call.{Call}
 use Rattle.frame.specs.declared.call.Call.TheVariants.{Clock}
 use Rattle.frame.specs.declared.call.Answer.{Answer}
 use Rattle.frame.specs.declared.call.Answer.TheVariants.{Word}
 use Rattle.frame.specs.declared.flags.Flags.{Flags}
 use Rattle.frame.specs.Ports.{Core, State}
-use Rattle.frame.specs.Machine.{underrun, wants, pictured, word, fed, turn, moved, in_line, opening, late_now, overrun, requests, ready_core, ready_source, fed_core, next_core, next_flags, clock_state, clock_source, clock_word}
+use Rattle.frame.specs.Machine.{underrun, wants, pictured, fed, opening, late_now, overrun, requests, ready_core, ready_source, fed_core, next_core, next_flags, clock_state, clock_source, clock_word}
 use Rattle.frame.specs.History.{clocked_by, source_by, word_by, call_state, call_source, call_answer, after, answers, over, source_after}
 use Rattle.console.specs.Idle.{idled, Idle, idle_words, Clocks}
 use Rattle.console.specs.Playing.{On}

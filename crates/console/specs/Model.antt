@@ -1,5 +1,5 @@
 -- What the library's console stands for.
-use Rattle.std.specs.Prelude.{ℕ, Some, None, Option}
+use Rattle.std.specs.Prelude.{Some, None, Option}
 use Rattle.video.specs.Composition.{Shape, shape_of}
 use Rattle.video.specs.declared.composition.Composition.{Composition}
 use Rattle.console.specs.declared.state.Console.{Console}

@@ -1,6 +1,5 @@
 -- The clock by the steps that the library takes.
 use Rattle.std.specs.Prelude.{ℕ, Bool, ◌||◌, Option}
-use Rattle.source.specs.Meaning.{Meaning}
 use Rattle.video.specs.Composition.{Shape}
 use Rattle.frame.specs.declared.flags.Flags.{Flags}
 use Rattle.frame.specs.Ports.{Core, State}

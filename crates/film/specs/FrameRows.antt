@@ -1,5 +1,5 @@
 -- The listing of a frame.
-use Rattle.std.specs.Prelude.{ℕ, zero, suc, ◌+◌, ◌-◌, ◌*◌, Bool, true, false, cond, List, ◌∷◌, ◌++◌, length, take, drop, replicate, Some, None, vec_items, Option, ◌==◌, nat_lt, slice_index}
+use Rattle.std.specs.Prelude.{ℕ, zero, suc, ◌-◌, ◌*◌, Bool, true, false, cond, List, ◌∷◌, ◌++◌, length, take, drop, replicate, Some, None, vec_items, Option, ◌==◌, nat_lt, slice_index}
 use Rattle.refusal.specs.declared.Refusal.{Refusal}
 use Rattle.refusal.specs.declared.Refusal.TheVariants.{NoComposition, UnknownCommand, TooManyColumns, PageTooLong, BadBus, NoSuchRow, BufferTooSmall, PageEnds, OutOfMemory}
 use Rattle.video.specs.Composition.{Shape, shape_of}

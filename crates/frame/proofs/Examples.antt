@@ -1,5 +1,5 @@
 -- The law's hypotheses are met.
-use Rattle.std.proofs.Common.{◌≡◌, ℕ, zero, suc, ◌+◌, Bool, true, false, List, [], ◌∷◌, refl, ap, ◌∙◌, arith}
+use Rattle.std.proofs.Common.{◌≡◌, ℕ, zero, suc, Bool, true, false, refl, arith}
 use Rattle.source.specs.Meaning.{Meaning}
 use Rattle.rows.specs.Page.{taking_at, row}
 use Rattle.frame.specs.declared.call.Call.TheVariants.{Clock}
@@ -7,7 +7,7 @@ use Rattle.frame.specs.Ports.{State, new}
 use Rattle.frame.specs.Timing.{line_clocks, span, total, seek, first_free, opens, takes, late, in_time}
 use Rattle.frame.specs.History.{call_state, call_source, after, over}
 use Rattle.frame.specs.Law.{at_start, Ready, Quiet, clocks}
-use Rattle.frame.specs.Example.{tiny, held_until, start_up, clock_calls, frame_over, Met}
+use Rattle.frame.specs.Example.{tiny, held_until, start_up, clock_calls, Met}
 use Rattle.frame.proofs.Threads.{found_over}
 
 -- clocks alone are quiet, and each counts

@@ -1,16 +1,16 @@
 -- A frame: what each of its clocks finds.
-use Rattle.std.proofs.Common.{◌≡◌, ℕ, zero, suc, ◌+◌, ◌-◌, ◌*◌, ◌%◌, ◌<◌, ◌≤◌, Bool, true, false, cond, not, ◌&&◌, ◌||◌, eqb, ltb, leb, ◌⊎◌, List, [], ◌∷◌, Some, None, Option, sym, refl, ap, ◌∙◌, inl, inr, ⊎_elim, suc-mul, arith}
+use Rattle.std.proofs.Common.{◌≡◌, ℕ, zero, suc, ◌+◌, ◌*◌, ◌<◌, ◌≤◌, Bool, true, false, not, ◌&&◌, ◌||◌, eqb, ltb, leb, List, Option, sym, refl, ap, ◌∙◌, ⊎_elim, suc-mul, arith}
 use Rattle.std.proofs.lemmas.Bool.{cases_lt, cases_Bool, lt-ltb, le-ltb, le-leb, lt-leb, not-true, not-false}
 use Rattle.std.proofs.lemmas.Bool.Decides.{nat_tests}
 use Rattle.source.specs.Meaning.{handed, left}
 use Rattle.video.specs.Composition.{Shape, width, line_count}
-use Rattle.video.specs.Picture.{dark_word, cell_word}
-use Rattle.rows.specs.Page.{blank, row_cell, cursor_in, picture}
-use Rattle.rows.specs.Buffer.{Buffer, Shown, full, fresh, column_cell}
-use Rattle.rows.specs.Stands.{Stands, Columns}
+use Rattle.video.specs.Picture.{dark_word}
+use Rattle.rows.specs.Page.{blank, picture}
+use Rattle.rows.specs.Buffer.{Shown, full, fresh}
+use Rattle.rows.specs.Stands.{Columns}
 use Rattle.frame.specs.Ports.{Bursts, Core}
 use Rattle.frame.specs.Timing.{line_clocks, span, total, late, in_time, requested}
-use Rattle.frame.specs.Machine.{Opening, within, frame_start, row_start, opening, idle, underrun, prepared, wants, hrtc, vrtc, pictured, fed, Turn, in_line, new_line, new_row, new_frame, turn, moved}
+use Rattle.frame.specs.Machine.{within, row_start, opening, idle, underrun, prepared, wants, vrtc, pictured, fed, Turn, in_line, new_line, new_row, new_frame, turn, moved}
 use Rattle.frame.proofs.Filling.{Filling, Read, step, ended, read, began, asks}
 
 -- clock t of a frame, with the core as the clock has prepared it and the rest as the clock finds it

@@ -3,12 +3,10 @@ use Rattle.std.proofs.Common.{◌≡◌, ℕ, Bool, true, false, cond, Some, Non
 use Rattle.std.proofs.lemmas.Bool.{cases_Bool}
 use Rattle.refusal.specs.declared.Refusal.{Refusal}
 use Rattle.refusal.specs.declared.Refusal.TheVariants.{UnknownCommand, TooManyColumns}
-use Rattle.source.specs.Meaning.{Meaning}
 use Rattle.video.specs.Composition.{Shape, allowed}
 use Rattle.frame.specs.declared.pending.Pending.{Pending}
 use Rattle.frame.specs.declared.pending.Pending.TheVariants.{Nothing, Reset1, Reset2, Reset3, Reset4, CursorColumn, CursorRow, PenColumn, PenRow}
 use Rattle.frame.specs.Ports.{State, is_command, command_refusal, commanded, refused_parameter, parameter_to, after_read}
-use Rattle.frame.specs.Machine.{stroke}
 use Rattle.frame.specs.History.{call_state, stroke_by}
 use Rattle.frame.specs.Law.{Alike, Harmless}
 

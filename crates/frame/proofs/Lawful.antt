@@ -1,22 +1,21 @@
 -- The law of a frame.
-use Rattle.std.proofs.Common.{◌≡◌, ℕ, zero, suc, ◌+◌, ◌-◌, ◌*◌, ◌<◌, ◌≤◌, Bool, true, false, cond, not, ◌&&◌, ◌||◌, eqb, ltb, leb, List, [], ◌∷◌, length, get_or, Some, None, Option, sym, refl, ap, ◌∙◌, subst, inl, inr, ⊎_elim, mul_comm, arith}
-use Rattle.std.proofs.lemmas.Bool.{cases_Bool, lt-leb, not-true, and_parts, and_from, or_parts, or_from, not_from_false, leb-false}
+use Rattle.std.proofs.Common.{◌≡◌, ℕ, zero, suc, ◌+◌, ◌*◌, ◌<◌, ◌≤◌, Bool, true, false, List, [], ◌∷◌, length, get_or, Some, None, Option, sym, refl, ap, ◌∙◌, subst, mul_comm, arith}
+use Rattle.std.proofs.lemmas.Bool.{lt-leb, not-true, and_parts, and_from, or_parts, or_from, not_from_false, leb-false}
 use Rattle.refusal.specs.declared.Refusal.{Refusal}
 use Rattle.source.specs.Meaning.{Meaning}
-use Rattle.video.specs.Composition.{Shape, Proper, line_count}
-use Rattle.video.specs.Picture.{bit, dark_word}
-use Rattle.rows.specs.Page.{row, picture}
+use Rattle.video.specs.Composition.{Shape, Proper}
+use Rattle.rows.specs.Page.{row}
 use Rattle.frame.specs.declared.call.Call.{Call}
 use Rattle.frame.specs.declared.call.Call.TheVariants.{Command, Parameter, Status, Read, Stroke, Clock}
 use Rattle.frame.specs.declared.call.Answer.{Answer}
-use Rattle.frame.specs.declared.call.Answer.TheVariants.{Done, Byte, Word, Refused}
-use Rattle.frame.specs.Ports.{Bursts, Core, State, new, command_refusal, parameter_refusal, status_byte, parameter_byte}
-use Rattle.frame.specs.Timing.{line_clocks, span, total, overdue, late, in_time, requested}
+use Rattle.frame.specs.declared.call.Answer.TheVariants.{Byte, Word}
+use Rattle.frame.specs.Ports.{Bursts, State, new, command_refusal, parameter_refusal, status_byte, parameter_byte}
+use Rattle.frame.specs.Timing.{line_clocks, span, total, overdue, late, in_time}
 use Rattle.frame.specs.Machine.{clock_state, clock_source, clock_word}
 use Rattle.frame.specs.History.{Moment, clocked_by, source_by, word_by, stroke_answer, done, call_state, call_source, call_answer, after, answers, words}
-use Rattle.frame.specs.Law.{at_start, Ready, Alike, QuietCall, Quiet, clock_count, clocks, FoundAt, FoundBy, Found, rest_by, picture_bits, request_bit, place, Played, Equal, Law, FrameLaw}
+use Rattle.frame.specs.Law.{at_start, Ready, Alike, QuietCall, Quiet, clock_count, clocks, FoundAt, FoundBy, Found, rest_by, picture_bits, place, Played, Equal, Law, FrameLaw}
 use Rattle.frame.proofs.Takes.{takes_mono}
-use Rattle.frame.proofs.Frames.{line_clocks_is, span_is, total_is}
+use Rattle.frame.proofs.Frames.{line_clocks_is}
 use Rattle.frame.proofs.Sound.{history_proper}
 use Rattle.frame.proofs.Walks.{At, Seen, number, begun_at, clock_on, at_alike, seen}
 

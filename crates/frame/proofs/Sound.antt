@@ -1,5 +1,5 @@
 -- Every composition that a history can lead to is proper.
-use Rattle.std.proofs.Common.{◌≡◌, ℕ, ◌+◌, ◌*◌, ◌/◌, ◌%◌, ◌<◌, ◌≤◌, Bool, true, false, cond, ◌&&◌, eqb, leb, List, [], ◌∷◌, Some, None, Option, sym, refl, ap, ◌∙◌, subst, ⊎_elim, arith}
+use Rattle.std.proofs.Common.{◌≡◌, ℕ, ◌/◌, ◌%◌, ◌≤◌, Bool, true, false, cond, ◌&&◌, eqb, leb, List, [], ◌∷◌, Some, None, Option, sym, refl, subst, ⊎_elim, arith}
 use Rattle.std.proofs.lemmas.Bool.{cases_Bool}
 use Rattle.std.proofs.lemmas.Bool.Decides.{nat_tests}
 use Rattle.source.specs.Meaning.{Meaning}
@@ -9,7 +9,7 @@ use Rattle.frame.specs.declared.pending.Pending.TheVariants.{Nothing, Reset1, Re
 use Rattle.frame.specs.declared.call.Call.{Call}
 use Rattle.frame.specs.declared.call.Call.TheVariants.{Command, Parameter, Status, Read, Stroke, Clock}
 use Rattle.frame.specs.Ports.{State, new, is_command, dropped, reset, controlled, stopped, waiting, preset, burst_size, burst_space, obeyed, parameter_to, after_read}
-use Rattle.frame.specs.Machine.{clock_state, stroke}
+use Rattle.frame.specs.Machine.{clock_state}
 use Rattle.frame.specs.History.{Moment, call_state, clocked_by, stroke_by, after}
 
 abbrev ProperIn : Option Shape → Type 0

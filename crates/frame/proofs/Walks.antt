@@ -1,27 +1,21 @@
 -- Moments from the first clock of an armed frame on.
-use Rattle.std.proofs.Common.{◌≡◌, ℕ, zero, suc, ◌+◌, ◌-◌, ◌*◌, ◌/◌, ◌%◌, ◌<◌, ◌≤◌, Bool, true, false, cond, not, ◌&&◌, ◌||◌, eqb, ltb, leb, ◌⊎◌, List, [], ◌∷◌, length, get_or, drop, Some, None, Option, sym, refl, ap, ◌∙◌, subst, inl, inr, ⊎_elim, suc-mul, arith}
+use Rattle.std.proofs.Common.{◌≡◌, ℕ, zero, suc, ◌+◌, ◌*◌, ◌/◌, ◌%◌, ◌<◌, ◌≤◌, Bool, true, false, cond, ◌&&◌, ◌||◌, eqb, ltb, leb, List, [], Some, Option, sym, refl, ap, ◌∙◌, ⊎_elim, suc-mul, arith}
 use lib.Arith.{digits_lt}
 use Rattle.std.proofs.lemmas.Bool.{cases_lt, cases_Bool, eqb-true, and_parts}
 use Rattle.std.proofs.lemmas.Bool.Decides.{nat_tests}
-use Rattle.refusal.specs.declared.Refusal.{Refusal}
-use Rattle.source.specs.Meaning.{Meaning, handed, left, begun, answer, clocked}
+use Rattle.source.specs.Meaning.{Meaning, handed, left, answer}
 use Rattle.video.specs.Composition.{Shape, Proper, line_count}
 use Rattle.video.specs.Picture.{bit, text_signals, graphic_signals, finished, dark_word, cell_word, signals_word}
 use Rattle.video.specs.declared.cell.Cell.{Cell}
 use Rattle.video.specs.declared.cell.Cell.TheVariants.{Dark, Text, Symbol}
 use Rattle.video.specs.declared.signals.Signals.{Signals}
-use Rattle.rows.specs.Page.{blank, cursor_in, picture}
-use Rattle.rows.specs.Buffer.{column_cell, nothing, fresh}
+use Rattle.rows.specs.Page.{blank, picture}
+use Rattle.rows.specs.Buffer.{nothing}
 use Rattle.rows.proofs.Chain.{at_top}
-use Rattle.frame.specs.declared.call.Call.{Call}
-use Rattle.frame.specs.declared.call.Call.TheVariants.{Command, Parameter, Status, Read, Stroke, Clock}
-use Rattle.frame.specs.declared.call.Answer.{Answer}
-use Rattle.frame.specs.declared.call.Answer.TheVariants.{Done, Byte, Word, Refused}
 use Rattle.frame.specs.Ports.{Bursts, Core, State}
 use Rattle.frame.specs.Timing.{line_clocks, span, total, in_time, requested}
 use Rattle.frame.specs.Machine.{Opening, within, frame_start, row_start, opening, idle, prepared, begins, wants, pictured, word, fed, Turn, in_line, new_line, new_row, new_frame, turn, moved, requests, ready_core, ready_source, fed_core, next_core, clock_state, clock_source, clock_word}
-use Rattle.frame.specs.History.{Moment, clocked_by, source_by, word_by, stroke_answer, done, call_state, call_source, call_answer, after, answers, words}
-use Rattle.frame.specs.Law.{at_start, Ready, Alike, QuietCall, Quiet, clock_count, clocks, FoundAt, FoundBy, Found, rest_by, picture_bits, request_bit}
+use Rattle.frame.specs.Law.{at_start, Ready, Alike, FoundAt, picture_bits, request_bit}
 use Rattle.frame.proofs.Filling.{began}
 use Rattle.frame.proofs.Frames.{Good, Says, turn_says, stepped, line_clocks_is, span_is, total_is, row_end, next, requests_it, shows_row, shows_dark, shows_retrace}
 

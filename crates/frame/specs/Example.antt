@@ -1,10 +1,10 @@
 -- The law's hypotheses are met: a frame with no late row, and one with a late row.
-use Rattle.std.specs.Prelude.{◌≡◌, ℕ, zero, suc, Bool, true, false, List, [], ◌∷◌, nat_le}
+use Rattle.std.specs.Prelude.{◌≡◌, ℕ, zero, suc, Bool, List, [], ◌∷◌, nat_le}
 use Rattle.source.specs.Meaning.{Meaning, filled}
 use Rattle.video.specs.Composition.{Shape, composed}
 use Rattle.frame.specs.declared.call.Call.{Call}
 use Rattle.frame.specs.declared.call.Call.TheVariants.{Command, Parameter, Clock}
-use Rattle.frame.specs.Ports.{State, new}
+use Rattle.frame.specs.Ports.{new}
 use Rattle.frame.specs.Timing.{total, in_time}
 use Rattle.frame.specs.History.{Moment, after, over}
 use Rattle.frame.specs.Law.{Ready, Quiet, Found, clocks}

@@ -1,5 +1,5 @@
 -- Histories: calls from a new console on, each with the source that it found.
-use Rattle.std.specs.Prelude.{ℕ, zero, suc, List, [], ◌∷◌, Some, None, Option}
+use Rattle.std.specs.Prelude.{ℕ, List, [], ◌∷◌, Some, None, Option}
 use Rattle.refusal.specs.declared.Refusal.{Refusal}
 use Rattle.refusal.specs.declared.Refusal.TheVariants.{NoComposition}
 use Rattle.source.specs.Meaning.{Meaning}

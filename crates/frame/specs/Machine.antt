@@ -1,10 +1,10 @@
 -- One clock of the controller.
-use Rattle.std.specs.Prelude.{ℕ, zero, suc, ◌+◌, ◌-◌, ◌*◌, ◌%◌, Bool, true, false, cond, not, ◌&&◌, ◌||◌, List, [], ◌∷◌, Some, None, Option, ◌==◌, nat_le, nat_lt}
+use Rattle.std.specs.Prelude.{ℕ, zero, suc, ◌+◌, ◌-◌, ◌*◌, ◌%◌, Bool, true, false, cond, not, ◌&&◌, ◌||◌, Some, None, Option, ◌==◌, nat_le, nat_lt}
 use Rattle.source.specs.Meaning.{Meaning, begun, answer, clocked}
 use Rattle.video.specs.Composition.{Shape, width, line_count}
 use Rattle.video.specs.Picture.{bit, dark_word, cell_word}
 use Rattle.rows.specs.Page.{blank, cursor_in}
-use Rattle.rows.specs.Buffer.{Buffer, Shown, full, eat, nothing, fresh, column_cell}
+use Rattle.rows.specs.Buffer.{Buffer, full, eat, nothing, fresh, column_cell}
 use Rattle.frame.specs.declared.flags.Flags.{Flags}
 use Rattle.frame.specs.Ports.{Bursts, Core, State}
 use Rattle.frame.specs.Timing.{pause}

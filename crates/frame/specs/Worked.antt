@@ -1,5 +1,5 @@
 -- Worked cases of the definitions.
-use Rattle.std.specs.Prelude.{◌≡◌, ℕ, ◌+◌, ◌*◌, Bool, true, false, List, [], ◌∷◌, Some, None, nat_le}
+use Rattle.std.specs.Prelude.{◌≡◌, ℕ, Bool, true, false, List, [], ◌∷◌, Some, None, nat_le}
 use Rattle.refusal.specs.declared.Refusal.TheVariants.{TooManyColumns}
 use Rattle.video.specs.Composition.{Shape, composed}
 use Rattle.video.specs.Fields.{field_of}
@@ -7,7 +7,7 @@ use Rattle.video.specs.declared.format.CursorFormat.TheVariants.{Block}
 use Rattle.video.specs.declared.cell.Cell.TheVariants.{Text}
 use Rattle.rows.specs.Page.{row, row_cell}
 use Rattle.frame.specs.declared.pending.Pending.TheVariants.{Reset1}
-use Rattle.frame.specs.Ports.{Bursts, new, waiting, parameter_refusal}
+use Rattle.frame.specs.Ports.{new, waiting, parameter_refusal}
 use Rattle.frame.specs.Timing.{total, takes, late}
 
 -- 80 columns and 20 clocks of retrace, 10 lines, 25 rows and one row time of retrace, as Reset asks for it

@@ -1,5 +1,5 @@
 -- The lines of a row.
-use Rattle.std.specs.Prelude.{ℕ, Bool, cond, List, [], ◌∷◌, ◌++◌, length, codes, ◌==◌}
+use Rattle.std.specs.Prelude.{ℕ, cond, List, [], ◌∷◌, ◌++◌, length, codes, ◌==◌}
 use Rattle.video.specs.Composition.{Shape}
 use Rattle.listing.specs.Looks.{row_text, row_marks}
 use Rattle.layout.specs.Numbers.{right}

@@ -1,5 +1,5 @@
 -- A console programmed by Reset, Load Cursor and Start.
-use Rattle.std.specs.Prelude.{ℕ, Bool, cond, Some, None, Option}
+use Rattle.std.specs.Prelude.{ℕ, cond, Some, None, Option}
 use Rattle.refusal.specs.declared.Refusal.{Refusal}
 use Rattle.refusal.specs.declared.Refusal.TheVariants.{TooManyColumns}
 use Rattle.video.specs.Composition.{allowed}

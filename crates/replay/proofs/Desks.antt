@@ -1,8 +1,7 @@
 -- Lemmas on what the lines play on.
-use Rattle.std.proofs.Common.{◌≡◌, ℕ, ◌+◌, ◌*◌, ◌<◌, ◌≤◌, Bool, true, false, cond, ltb, List, [], ◌∷◌, ◌++◌, length, take, replicate, sym, refl, ap, ◌∙◌, subst, arith}
+use Rattle.std.proofs.Common.{◌≡◌, ℕ, ◌+◌, ◌*◌, ◌<◌, ◌≤◌, Bool, true, false, cond, ltb, List, [], ◌∷◌, length, take, replicate, sym, refl, ap, ◌∙◌, subst, arith}
 use Rattle.std.proofs.lemmas.List.{length-replicate, take-replicate}
 use Rattle.std.proofs.lemmas.Bool.Decides.{nat_tests}
-use Rattle.refusal.specs.declared.Refusal.{Refusal}
 use Rattle.refusal.specs.declared.Refusal.TheVariants.{OutOfMemory}
 use Rattle.source.specs.Meaning.{Meaning, filled}
 use Rattle.source.specs.Buses.{always}
@@ -11,7 +10,7 @@ use Rattle.frame.specs.declared.call.Call.{Call}
 use Rattle.frame.specs.declared.call.Call.TheVariants.{Clock}
 use Rattle.frame.specs.declared.call.Answer.{Answer}
 use Rattle.frame.specs.Ports.{State}
-use Rattle.frame.specs.History.{after, answers, over, source_after, call_state, call_source}
+use Rattle.frame.specs.History.{answers, over, call_state, call_source}
 use Rattle.console.specs.Playing.{Played}
 use Rattle.replay.specs.declared.requests.Request.{Request}
 use Rattle.replay.specs.declared.requests.Request.TheVariants.{Single, Clocks, Page}

@@ -1,15 +1,14 @@
 -- Lines and texts, fed by parts.
-use Rattle.std.proofs.Common.{◌≡◌, ℕ, suc, ◌+◌, ◌-◌, ◌<◌, ◌≤◌, Bool, true, false, cond, eqb, ltb, leb, ◌≢◌, List, [], ◌∷◌, ◌++◌, length, get_or, take, drop, Ok, Err, Result, sym, refl, ap, ◌∙◌, ⊎_elim, true≢false, append_assoc, append-nil, arith}
+use Rattle.std.proofs.Common.{◌≡◌, ℕ, ◌+◌, ◌<◌, ◌≤◌, Bool, true, false, cond, eqb, ltb, leb, ◌≢◌, List, [], ◌∷◌, ◌++◌, length, get_or, take, Err, Result, sym, refl, ap, ◌∙◌, ⊎_elim, true≢false, append_assoc, append-nil, arith}
 use Rattle.std.proofs.lemmas.List.{take_more, take_all, length-append}
 use Rattle.std.proofs.lemmas.Bool.{cases_Bool}
 use Rattle.std.proofs.lemmas.Bool.Decides.{nat_tests}
 use Rattle.frame.specs.declared.call.Answer.{Answer}
-use Rattle.replay.specs.declared.faults.LineFault.{LineFault}
 use Rattle.replay.specs.declared.faults.Fault.{Fault}
 use Rattle.replay.specs.declared.faults.Fault.TheVariants.{Line}
 use Rattle.replay.specs.declared.requests.Request.{Request}
-use Rattle.replay.specs.Digits.{value, wrong}
-use Rattle.replay.specs.Requests.{sound, first_fault, asked}
+use Rattle.replay.specs.Digits.{wrong}
+use Rattle.replay.specs.Requests.{sound}
 use Rattle.replay.specs.Desk.{Desk, followed, answers_to, Follows}
 use Rattle.replay.specs.Prints.{Stage, request_at, answers_at, spoken, verdict, fault_text, said, next, ended, at_end, printed_from, Fed, FedSome}
 

@@ -1,12 +1,12 @@
 -- Lemmas on text and lists.
-use Rattle.std.proofs.Common.{◌≡◌, ℕ, suc, ◌+◌, ◌-◌, ◌<◌, ◌≤◌, Bool, true, false, cond, eqb, ltb, leb, ◌≢◌, List, [], ◌∷◌, ◌++◌, length, get_or, take, drop, Ok, Err, Result, sym, refl, ap, ◌∙◌, append_assoc, append-nil, add-one, arith, drop-cons}
-use Rattle.std.proofs.lemmas.List.{take_more, take_all, drop_all, length-drop, get_or-drop}
+use Rattle.std.proofs.Common.{◌≡◌, ℕ, suc, ◌+◌, ◌-◌, ◌<◌, ◌≤◌, cond, eqb, ltb, ◌≢◌, List, [], ◌∷◌, ◌++◌, length, get_or, drop, Ok, Err, sym, refl, ap, ◌∙◌, append_assoc, append-nil, add-one, arith, drop-cons}
+use Rattle.std.proofs.lemmas.List.{drop_all}
 use Rattle.std.proofs.lemmas.Bool.Decides.{nat_tests}
 use Rattle.frame.specs.declared.call.Answer.{Answer}
 use Rattle.replay.specs.declared.faults.PortFault.{PortFault}
 use Rattle.replay.specs.Digits.{value, wrong, byte_at}
 use Rattle.replay.specs.Requests.{bytes_from}
-use Rattle.replay.specs.Prints.{answer_text, refused, unless, and_then, texts, outcome}
+use Rattle.replay.specs.Prints.{answer_text, refused, texts, outcome}
 
 here : (n v rest : ℕ) → n ≤ 66 → v ≡ 16 → cond (ltb 66 n) 0 (cond (eqb v 16) n rest) ≡ n
 here n v rest h e = grind (arith, nat_tests)

@@ -1,10 +1,7 @@
 -- The layer, the number and the column of a fault.
 use Rattle.std.specs.Prelude.{ℕ}
 use Rattle.refusal.specs.Numbers.{number}
-use Rattle.replay.specs.declared.faults.LineFault.{LineFault}
-use Rattle.replay.specs.declared.faults.EventFault.{EventFault}
 use Rattle.replay.specs.declared.faults.EventFault.TheVariants.{PageTooLong, Malformed}
-use Rattle.replay.specs.declared.faults.PortFault.{PortFault}
 use Rattle.replay.specs.declared.faults.Fault.{Fault}
 use Rattle.replay.specs.declared.faults.Fault.TheVariants.{Line, Event, Port}
 

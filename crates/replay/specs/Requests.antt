@@ -1,6 +1,5 @@
 -- What a line asks for: the line layer and the event layer.
 use Rattle.std.specs.Prelude.{◌≡◌, ℕ, zero, suc, ◌+◌, ◌-◌, ◌*◌, ◌/◌, ◌%◌, ◌<◌, ◌≤◌, Bool, false, cond, not, ◌&&◌, List, [], ◌∷◌, length, Ok, Err, Result, ◌==◌, nat_le, nat_lt}
-use Rattle.frame.specs.declared.call.Call.{Call}
 use Rattle.frame.specs.declared.call.Call.TheVariants.{Command, Parameter, Status, Read, Stroke}
 use Rattle.replay.specs.declared.faults.LineFault.{LineFault}
 use Rattle.replay.specs.declared.faults.EventFault.{EventFault}

@@ -1,19 +1,18 @@
 -- Rows of a page, one below another, as a row buffer reads them.
-use Rattle.std.proofs.Common.{◌≡◌, ℕ, zero, suc, ◌+◌, ◌-◌, ◌*◌, ◌%◌, ◌<◌, ◌≤◌, Bool, true, false, cond, not, ◌&&◌, ◌||◌, eqb, ltb, leb, List, [], ◌∷◌, ◌++◌, length, take, drop, replicate, Some, None, Option, sym, refl, ap, ◌∙◌, inl, inr, ⊎_elim, append_assoc, append-nil, arith}
+use Rattle.std.proofs.Common.{◌≡◌, ℕ, zero, suc, ◌+◌, Bool, true, false, ◌&&◌, ◌||◌, List, [], ◌∷◌, ◌++◌, take, drop, Some, None, sym, refl, ap, ◌∙◌, ⊎_elim, append-nil, arith}
 use Rattle.std.proofs.lemmas.Bool.{cases_Bool, cond-true, cond-false}
-use Rattle.std.proofs.lemmas.Bool.Decides.{nat_tests}
 use Rattle.video.specs.Composition.{Shape}
 use Rattle.rows.specs.declared.kinds.Position.{Position}
-use Rattle.rows.specs.Lists.{some, last, upto}
-use Rattle.rows.specs.Positions.{positions, stops, ends_screen, stops_all}
-use Rattle.rows.specs.Takes.{row_positions, count, enough, dropped, size}
+use Rattle.rows.specs.Lists.{some, last}
+use Rattle.rows.specs.Positions.{ends_screen, stops_all}
+use Rattle.rows.specs.Takes.{row_positions, count, enough}
 use Rattle.rows.specs.Shows.{effective, fields, field_behind, cell}
 use Rattle.video.specs.Fields.{no_field}
 use Rattle.video.specs.declared.field.Field.{Field}
 use Rattle.rows.specs.declared.kinds.Position.TheVariants.{Letter, Attribute, Pair, Graphic, Control, Unused}
 use Rattle.rows.proofs.Basics.{or_false}
-use Rattle.rows.specs.Buffer.{Shown, Buffer, Reading, fresh, reads, puts, put, full, cell_of}
-use Rattle.rows.specs.Page.{Row, blank, idle_below, taking_at, row, row_field, effects, screen_over, row_cell, window, windows}
+use Rattle.rows.specs.Buffer.{Shown, Reading, fresh, reads, puts, full, cell_of}
+use Rattle.rows.specs.Page.{blank, idle_below, taking_at, row, row_field, effects, screen_over, row_cell, window, windows}
 use Rattle.rows.specs.Stands.{Stands, Columns}
 use Rattle.rows.proofs.Takes.{taking, ready, outcome, mk, reads_full}
 use Rattle.rows.proofs.Shows.{shows, field_is, below_is, hidden_is}

@@ -1,21 +1,18 @@
 -- What a window and a still of a row that was found have.
-use Rattle.std.proofs.Common.{◌≡◌, ℕ, zero, suc, ◌+◌, ◌-◌, ◌*◌, ◌<◌, ◌≤◌, Bool, true, false, cond, ◌&&◌, ◌||◌, eqb, ltb, leb, List, [], ◌∷◌, ◌++◌, length, get_or, take, drop, Some, None, Option, sym, refl, ap, ◌∙◌, subst, ⊎_elim, append-nil, arith, length-drop}
-use Rattle.std.proofs.lemmas.Bool.{cases_Bool, and_parts, cond-true, cond-false}
+use Rattle.std.proofs.Common.{◌≡◌, ℕ, zero, suc, ◌+◌, ◌-◌, ◌*◌, ◌<◌, ◌≤◌, Bool, true, false, ◌||◌, ltb, leb, List, [], ◌∷◌, ◌++◌, length, get_or, take, drop, Option, sym, refl, ap, ◌∙◌, subst, ⊎_elim, append-nil, arith, length-drop}
+use Rattle.std.proofs.lemmas.Bool.{cases_Bool, and_parts}
 use Rattle.std.proofs.lemmas.Bool.Decides.{nat_tests}
 use Rattle.video.specs.Composition.{Shape, width, line_count}
 use Rattle.video.specs.Picture.{dark_word, cell_word}
-use Rattle.video.specs.declared.field.Field.{Field}
-use Rattle.video.specs.declared.cell.Cell.{Cell}
 use Rattle.video.specs.declared.cell.Cell.TheVariants.{Dark}
 use Rattle.rows.specs.declared.kinds.Position.{Position}
 use Rattle.rows.specs.declared.state.RowBuffer.{RowBuffer}
-use Rattle.rows.specs.Lists.{some, upto}
-use Rattle.rows.specs.Positions.{positions, stops}
-use Rattle.rows.specs.Takes.{row_positions, size, count, enough, dropped}
-use Rattle.rows.specs.Shows.{cell}
-use Rattle.rows.specs.Page.{Row, row, blank, idle_below, taking_at, window, windows, row_field, screen_over, row_cell, picture, cursor_in}
+use Rattle.rows.specs.Lists.{upto}
+use Rattle.rows.specs.Positions.{stops}
+use Rattle.rows.specs.Takes.{row_positions, size, count, enough}
+use Rattle.rows.specs.Page.{Row, row, blank, taking_at, window, row_field, screen_over, row_cell, picture}
 use Rattle.rows.specs.Stands.{Finds}
-use Rattle.rows.specs.Refusals.{row_refusal, ends_refusal, window_refusal, still_refusal}
+use Rattle.rows.specs.Refusals.{ends_refusal, window_refusal, still_refusal}
 use Rattle.rows.specs.Laws.{EmptyRows, Windowed, AheadOnly, OwnOnly, BlankDark, Still}
 use Rattle.rows.proofs.Chain.{idle_row, taking_row, end_to_end, place_next}
 use Rattle.rows.proofs.Prefix.{same, closed, same_picture}

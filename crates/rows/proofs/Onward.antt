@@ -1,9 +1,9 @@
 -- Reading on in a part of the page.
-use Rattle.std.proofs.Common.{◌≡◌, ℕ, zero, suc, ◌+◌, ◌-◌, ◌*◌, ◌%◌, ◌<◌, ◌≤◌, Bool, true, false, cond, not, ◌&&◌, ◌||◌, List, [], ◌∷◌, ◌++◌, length, get_or, take, drop, Some, None, Option, sym, refl, ap, ◌∙◌, arith}
+use Rattle.std.proofs.Common.{◌≡◌, ℕ, ◌+◌, ◌<◌, ◌≤◌, Bool, true, false, List, length, get_or, drop, Some, None, sym, refl, ap, ◌∙◌}
 use Rattle.std.proofs.lemmas.List.{at_drop_more, at_drop_all}
 use Rattle.rows.specs.declared.state.RowBuffer.{RowBuffer}
-use Rattle.rows.specs.Buffer.{Buffer, Reading, full, eat, reads}
-use Rattle.rows.specs.Model.{buffer_of, shown_of, read_of}
+use Rattle.rows.specs.Buffer.{Buffer, full, eat, reads}
+use Rattle.rows.specs.Model.{buffer_of, read_of}
 use Rattle.rows.proofs.Takes.{reads_full, reads_more, reads_none}
 
 pub read_done : (f : Bool) (n : ℕ) (b : RowBuffer) (xs : List ℕ) (i : ℕ) → b.take.taken ≡ i → full (buffer_of b).take ≡ true

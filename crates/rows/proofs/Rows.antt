@@ -1,13 +1,12 @@
 -- Rows of a page, by row buffers.
-use Rattle.std.proofs.Common.{◌≡◌, ℕ, zero, suc, ◌+◌, ◌-◌, ◌<◌, ◌≤◌, Bool, true, false, cond, not, ◌&&◌, ◌||◌, eqb, ltb, leb, List, [], ◌∷◌, ◌++◌, length, take, drop, Some, None, Option, sym, refl, ap, ◌∙◌, arith, length-drop}
-use Rattle.std.proofs.lemmas.Bool.Decides.{nat_tests}
+use Rattle.std.proofs.Common.{◌≡◌, ℕ, suc, ◌+◌, ◌-◌, ◌<◌, Bool, false, List, length, take, drop, Some, None, Option, sym, ap, ◌∙◌, arith, length-drop}
 use Rattle.std.proofs.lemmas.List.{take_all}
 use Rattle.video.specs.Composition.{Shape}
 use Rattle.rows.specs.declared.state.RowBuffer.{RowBuffer}
-use Rattle.rows.specs.Buffer.{Shown, Buffer, Reading, fresh, reads}
+use Rattle.rows.specs.Buffer.{Shown, Buffer, fresh, reads}
 use Rattle.rows.specs.Model.{buffer_of, shown_of, read_of}
 use Rattle.rows.specs.Page.{blank, row}
-use Rattle.rows.specs.Stands.{Stands, Columns, Behind, Next, Finds}
+use Rattle.rows.specs.Stands.{Behind, Next}
 use Rattle.rows.proofs.Chain.{row_step, row_short, never_whole}
 
 -- the row below one, as a row buffer read it

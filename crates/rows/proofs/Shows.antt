@@ -1,21 +1,20 @@
 -- A row buffer shows what a row shows.
-use Rattle.std.proofs.Common.{◌≡◌, ℕ, zero, suc, ◌+◌, ◌-◌, ◌%◌, ◌<◌, ◌≤◌, Bool, true, false, cond, not, ◌&&◌, ◌||◌, eqb, ltb, leb, List, [], ◌∷◌, ◌++◌, length, get_or, take, drop, set, replicate, Some, None, Option, sym, refl, ap, ◌∙◌, inl, inr, ⊎_elim, append_assoc, append-nil, arith, length-set, get_or-set_other, get_or-set_same}
+use Rattle.std.proofs.Common.{◌≡◌, ℕ, zero, suc, ◌+◌, ◌%◌, ◌<◌, Bool, true, false, cond, ◌||◌, eqb, List, [], ◌∷◌, ◌++◌, length, get_or, take, set, replicate, sym, refl, ap, ◌∙◌, ⊎_elim, append_assoc, append-nil, arith, length-set, get_or-set_other, get_or-set_same}
 use mathlib.Core.Path.{fun_ext}
 use lib.ListN.{get_or-replicate}
-use Rattle.std.proofs.lemmas.Bool.{cases_lt, both_ways, cases_Bool, eqb-true, eqb-false, le-leb, lt-leb, not-true, not-false, cond-true, cond-false}
-use Rattle.std.proofs.lemmas.Bool.Decides.{nat_tests}
+use Rattle.std.proofs.lemmas.Bool.{cases_Bool, eqb-true, eqb-false}
 use Rattle.rows.specs.declared.kinds.Position.{Position}
 use Rattle.rows.specs.declared.kinds.Position.TheVariants.{Letter, Attribute, Pair, Graphic, Control, Unused}
 use Rattle.rows.specs.declared.kinds.Column.{Column}
 use Rattle.rows.specs.declared.kinds.Column.TheVariants.{Fixed, Memory}
-use Rattle.rows.specs.Lists.{some, at, last, before}
-use Rattle.rows.specs.Positions.{ends, stops, screen_code, ends_screen}
+use Rattle.rows.specs.Lists.{some, at, last}
+use Rattle.rows.specs.Positions.{screen_code, ends_screen}
 use Rattle.video.specs.declared.field.Field.{Field}
 use Rattle.video.specs.declared.cell.Cell.{Cell}
 use Rattle.video.specs.declared.cell.Cell.TheVariants.{Dark, Text, Symbol}
-use Rattle.rows.specs.Shows.{effective, fields, field_behind, characters, alike, memory, shown, shown_at, cell}
+use Rattle.rows.specs.Shows.{effective, field_behind, characters, alike, memory, shown_at, cell}
 use Rattle.rows.proofs.Basics.{or_false, or_move}
-use Rattle.rows.specs.Buffer.{Shown, put, puts, resolved, cell_of}
+use Rattle.rows.specs.Buffer.{Shown, put, puts, cell_of}
 
 -- the columns that positions give: f the field before them, k field characters before them
 columns_of : Field → (k : ℕ) → (ended : Bool) → List Position → List Column

@@ -1,7 +1,6 @@
 -- One step of a row buffer, put together from its parts.
-use Rattle.std.proofs.Common.{◌≡◌, ℕ, zero, suc, ◌+◌, ◌-◌, ◌*◌, ◌%◌, ◌<◌, ◌≤◌, Bool, true, false, cond, not, ◌&&◌, ◌||◌, eqb, ltb, leb, List, [], ◌∷◌, ◌++◌, length, take, set, sym, refl, ap, ◌∙◌, inl, inr, ⊎_elim, add-one, arith, take-suc-set}
-use Rattle.std.proofs.lemmas.Bool.{cases_Bool, cond-true, cond-false}
-use Rattle.std.proofs.lemmas.Bool.Decides.{nat_tests}
+use Rattle.std.proofs.Common.{◌≡◌, ℕ, suc, ◌+◌, ◌-◌, ◌*◌, ◌%◌, ◌<◌, ◌≤◌, Bool, true, false, cond, not, ◌&&◌, ◌||◌, eqb, leb, List, [], ◌∷◌, ◌++◌, length, take, set, refl, ⊎_elim, add-one, arith, take-suc-set}
+use Rattle.std.proofs.lemmas.Bool.{cases_Bool}
 use Rattle.rows.specs.declared.kinds.Position.{Position}
 use Rattle.rows.specs.declared.kinds.Position.TheVariants.{Letter, Attribute, Pair, Graphic, Control, Unused}
 use Rattle.rows.specs.declared.kinds.Phase.{Phase}
@@ -9,7 +8,7 @@ use Rattle.rows.specs.declared.kinds.Phase.TheVariants.{Ready, Second, Extra, Do
 use Rattle.rows.specs.declared.kinds.Column.{Column}
 use Rattle.rows.specs.declared.kinds.Column.TheVariants.{Fixed}
 use Rattle.rows.specs.Lists.{some}
-use Rattle.rows.specs.Positions.{field_code, read, stops, ends, ends_screen, stops_all}
+use Rattle.rows.specs.Positions.{field_code, ends, ends_screen, stops_all}
 use Rattle.video.specs.declared.field.Field.{Field}
 use Rattle.video.specs.declared.cell.Cell.TheVariants.{Dark}
 use Rattle.rows.specs.Bound.{ahead}

@@ -1,18 +1,18 @@
 -- A row buffer takes what a row takes.
-use Rattle.std.proofs.Common.{◌≡◌, ℕ, zero, suc, ◌+◌, ◌-◌, ◌%◌, ◌<◌, ◌≤◌, Bool, true, false, cond, not, ◌&&◌, ◌||◌, eqb, ltb, leb, List, [], ◌∷◌, ◌++◌, length, take, drop, Some, None, Option, sym, refl, ap, ◌∙◌, inl, inr, ⊎_elim, arith}
-use Rattle.std.proofs.lemmas.Bool.{cases_lt, both_ways, cases_Bool, eqb-true, eqb-false, le-leb, lt-leb, not-true, not-false, cond-true, cond-false}
+use Rattle.std.proofs.Common.{◌≡◌, ℕ, zero, suc, ◌+◌, ◌-◌, ◌%◌, Bool, true, false, cond, not, ◌&&◌, ◌||◌, eqb, ltb, leb, List, [], ◌∷◌, length, take, drop, Some, None, Option, sym, refl, ap, ◌∙◌, ⊎_elim, arith}
+use Rattle.std.proofs.lemmas.Bool.{cases_Bool, cond-true, cond-false}
 use Rattle.std.proofs.lemmas.Bool.Decides.{nat_tests}
 use Rattle.rows.specs.declared.kinds.Position.{Position}
-use Rattle.rows.specs.declared.kinds.Position.TheVariants.{Letter, Attribute, Pair, Graphic, Control, Unused}
+use Rattle.rows.specs.declared.kinds.Position.TheVariants.{Pair}
 use Rattle.rows.specs.declared.kinds.Phase.{Phase}
 use Rattle.rows.specs.declared.kinds.Phase.TheVariants.{Ready, Second, Extra, Done}
 use Rattle.video.specs.Fields.{field_of}
 use Rattle.video.specs.declared.field.Field.{Field}
 use Rattle.rows.specs.Lists.{some, upto}
-use Rattle.rows.specs.Positions.{field_code, read, positions, stops, ends_screen, stops_all, width}
-use Rattle.rows.specs.Takes.{size, cut_short, dropped, row_positions}
+use Rattle.rows.specs.Positions.{field_code, read, positions, stops, stops_all, width}
+use Rattle.rows.specs.Takes.{size, dropped}
 use Rattle.rows.proofs.Basics.{or_false, or_assoc, leb_suc, ltb_suc, not_zero, width_read, positions_one}
-use Rattle.rows.specs.Buffer.{Taken, Shown, Buffer, Reading, full, took, put, puts, eat, ending, reads}
+use Rattle.rows.specs.Buffer.{Shown, Buffer, Reading, full, took, put, puts, eat, ending, reads}
 
 -- what a row gives that took `taken` bytes, where t tells that they suffice
 unfoldable pub mk : Bool → (taken : ℕ) (over : Bool) → Shown → List ℕ → Option Reading

@@ -1,5 +1,5 @@
 -- Words written one by one, and line by line.
-use Rattle.std.proofs.Common.{◌≡◌, ℕ, zero, suc, ◌+◌, ◌-◌, ◌*◌, ◌<◌, ◌≤◌, ◌⊎◌, List, [], ◌∷◌, ◌++◌, length, get_or, set, sym, refl, ap, ◌∙◌, inl, inr, ⊎_elim, mul-le-mul_right, suc-mul, arith, get_or-set_other, get_or-set_same}
+use Rattle.std.proofs.Common.{◌≡◌, ℕ, ◌+◌, ◌*◌, ◌<◌, ◌≤◌, ◌⊎◌, List, length, get_or, set, ◌∙◌, inl, inr, ⊎_elim, mul-le-mul_right, suc-mul, arith, get_or-set_other, get_or-set_same}
 use lib.Arith.{digits_lt}
 use Rattle.std.proofs.lemmas.Bool.{cases_lt}
 

@@ -1,5 +1,5 @@
 -- What a window and a still are, and the laws that hold of every page.
-use Rattle.std.specs.Prelude.{◌≡◌, ℕ, suc, ◌+◌, ◌-◌, ◌*◌, ◌<◌, ◌≤◌, Bool, true, false, ◌||◌, List, [], ◌∷◌, ◌++◌, length, take, None, Option, slice_index}
+use Rattle.std.specs.Prelude.{◌≡◌, ℕ, suc, ◌+◌, ◌-◌, ◌*◌, ◌<◌, ◌≤◌, true, false, ◌||◌, List, [], ◌++◌, length, take, None, Option, slice_index}
 use Rattle.video.specs.Composition.{Shape, width, line_count}
 use Rattle.video.specs.Picture.{dark_word}
 use Rattle.rows.specs.Page.{blank, row, row_field, screen_over, window, windows, picture}

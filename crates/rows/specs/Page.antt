@@ -1,5 +1,5 @@
 -- The rows of a page, and the page's picture of a row.
-use Rattle.std.specs.Prelude.{ℕ, zero, suc, ◌+◌, ◌%◌, Bool, true, false, cond, ◌&&◌, ◌||◌, List, [], ◌∷◌, ◌++◌, take, drop, Some, None, Option, ◌==◌, nat_lt}
+use Rattle.std.specs.Prelude.{ℕ, zero, suc, ◌+◌, ◌%◌, Bool, true, false, cond, ◌&&◌, ◌||◌, List, [], ◌++◌, take, drop, Some, None, Option, ◌==◌, nat_lt}
 use Rattle.video.specs.Composition.{Shape, line_count}
 use Rattle.video.specs.Fields.{no_field}
 use Rattle.video.specs.Picture.{dark_word, cell_word}

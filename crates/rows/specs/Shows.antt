@@ -1,5 +1,5 @@
 -- What a position of a row shows.
-use Rattle.std.specs.Prelude.{ℕ, suc, ◌%◌, Bool, cond, List, [], ◌∷◌, length, take, Some, None, Option, ◌==◌}
+use Rattle.std.specs.Prelude.{ℕ, suc, ◌%◌, cond, List, [], ◌∷◌, length, take, Some, None, Option, ◌==◌}
 use Rattle.video.specs.declared.field.Field.{Field}
 use Rattle.video.specs.declared.cell.Cell.{Cell}
 use Rattle.video.specs.declared.cell.Cell.TheVariants.{Dark, Text, Symbol}

@@ -1,5 +1,5 @@
 -- What a row takes.
-use Rattle.std.specs.Prelude.{ℕ, ◌+◌, ◌%◌, Bool, true, false, cond, not, ◌&&◌, ◌||◌, List, [], ◌∷◌, length, take, ◌==◌, nat_le, nat_lt}
+use Rattle.std.specs.Prelude.{ℕ, ◌+◌, ◌%◌, Bool, cond, not, ◌&&◌, ◌||◌, List, [], ◌∷◌, length, take, ◌==◌, nat_le, nat_lt}
 use Rattle.rows.specs.declared.kinds.Position.{Position}
 use Rattle.rows.specs.Lists.{upto, some}
 use Rattle.rows.specs.Positions.{positions, stops, width}

@@ -1,5 +1,5 @@
 -- The listing of a page by the stills of its rows.
-use Rattle.std.specs.Prelude.{◌≡◌, ℕ, zero, suc, ◌+◌, ◌*◌, ◌/◌, ◌%◌, ◌≤◌, Bool, cond, List, ◌∷◌, ◌++◌, length, replicate, codes, ◌==◌}
+use Rattle.std.specs.Prelude.{◌≡◌, ℕ, zero, suc, ◌+◌, ◌*◌, ◌/◌, ◌%◌, ◌≤◌, cond, List, ◌∷◌, ◌++◌, length, replicate, codes, ◌==◌}
 use Rattle.video.specs.Composition.{Shape, width}
 use Rattle.rows.specs.Page.{blank, row, window, picture}
 use Rattle.frame.specs.Ports.{State}

@@ -1,7 +1,7 @@
 -- A column's word: by its look, and how large it is.
 use Rattle.std.proofs.Common.{◌≡◌, ℕ, ◌+◌, ◌*◌, ◌<◌, ◌≤◌, Bool, true, false, ap, arith}
 use Rattle.video.specs.Composition.{Shape, line_count}
-use Rattle.video.specs.Picture.{bit, scan_line, text_signals, graphic_signals, finished, signals_word, dark_word, cell_word, look}
+use Rattle.video.specs.Picture.{bit, scan_line, text_signals, graphic_signals, finished, signals_word, cell_word, look}
 use Rattle.video.specs.declared.cell.Cell.{Cell}
 use Rattle.video.specs.declared.cell.Cell.TheVariants.{Dark, Text, Symbol}
 use Rattle.video.specs.declared.scan.ScanLine.{ScanLine}

@@ -1,5 +1,5 @@
 -- The screen composition.
-use Rattle.std.specs.Prelude.{ℕ, ◌+◌, ◌-◌, ◌*◌, ◌/◌, ◌%◌, ◌<◌, ◌≤◌, Bool, true, false, cond, ◌==◌, nat_le}
+use Rattle.std.specs.Prelude.{ℕ, ◌+◌, ◌-◌, ◌*◌, ◌/◌, ◌%◌, ◌<◌, ◌≤◌, Bool, cond, ◌==◌, nat_le}
 use Rattle.video.specs.declared.format.CursorFormat.{CursorFormat}
 use Rattle.video.specs.declared.format.CursorFormat.TheVariants.{BlinkingBlock, BlinkingUnderline, Block, Underline}
 use Rattle.video.specs.declared.composition.Composition.{Composition}

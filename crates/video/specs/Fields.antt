@@ -1,5 +1,5 @@
 -- Field attributes.
-use Rattle.std.specs.Prelude.{ℕ, ◌/◌, ◌%◌, Bool, true, false, ◌==◌}
+use Rattle.std.specs.Prelude.{ℕ, ◌/◌, ◌%◌, Bool, false, ◌==◌}
 use Rattle.video.specs.declared.field.Field.{Field}
 
 -- the bit of a number that stands for `value`

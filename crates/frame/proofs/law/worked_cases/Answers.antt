@@ -1,7 +1,7 @@
 -- Each case computes.
 use Rattle.std.proofs.Common.{refl}
 use Rattle.rows.specs.Page.{taking_at, row, effects, screen_over, row_cell}
-use Rattle.frame.specs.Timing.{line_clocks, span, total, seek, first_free, pause, opens, takes, late}
+use Rattle.frame.specs.Timing.{line_clocks, span, total, seek, first_free, opens, takes, late}
 use Rattle.frame.proofs.law.worked_cases.Goals as goal
 
 pub returns : goal.returns

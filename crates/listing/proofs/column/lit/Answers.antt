@@ -1,4 +1,4 @@
-use Rattle.std.proofs.Common.{◌+◌, arith}
+use Rattle.std.proofs.Common.{◌+◌}
 use Rattle.listing.proofs.Columns.{line_more, lines_done}
 use Rattle.listing.proofs.column.lit.Goals as goal
 

@@ -1,5 +1,5 @@
-use Rattle.std.proofs.Common.{◌≡◌, ℕ, ◌+◌, List, get_or, drop, sym, refl, ap, ◌∙◌, add-one, arith}
-use Rattle.rows.specs.Buffer.{Buffer, reads, eat, took}
+use Rattle.std.proofs.Common.{sym, ap, ◌∙◌, arith}
+use Rattle.rows.specs.Buffer.{Buffer, eat, took}
 use Rattle.rows.specs.Model.{buffer_of}
 use Rattle.rows.proofs.Onward.{read_more, read_done, read_short}
 use Rattle.rows.proofs.buffer.fill.Goals as goal

@@ -1,8 +1,8 @@
-use Rattle.std.proofs.Common.{◌≡◌, ℕ, suc, ◌+◌, ◌<◌, ◌≤◌, Bool, true, false, cond, ◌||◌, length, sym, refl, ap, ◌∙◌, add-one, arith, rules}
+use Rattle.std.proofs.Common.{◌≡◌, suc, ◌+◌, false, ap, ◌∙◌, arith}
 use Rattle.rows.specs.Buffer.{Buffer}
 use Rattle.rows.specs.Page.{blank}
 use Rattle.video.specs.Composition.{shape_of}
-use Rattle.rows.specs.Stands.{Stands, Behind, Next}
+use Rattle.rows.specs.Stands.{Behind}
 use Rattle.rows.specs.Model.{shown_of}
 use Rattle.rows.proofs.Chain.{at_top}
 use Rattle.rows.proofs.Rows.{ends_early}

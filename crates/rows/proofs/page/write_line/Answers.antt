@@ -1,5 +1,5 @@
-use Rattle.std.proofs.Common.{◌≡◌, ℕ, suc, ◌+◌, ◌<◌, ◌≤◌, sym, refl, ap, ◌∙◌, arith, length-set}
-use Rattle.video.specs.Composition.{shape_of, width}
+use Rattle.std.proofs.Common.{ℕ, suc, ◌+◌, ◌∙◌, arith, length-set}
+use Rattle.video.specs.Composition.{shape_of}
 use Rattle.rows.specs.Page.{picture}
 use Rattle.rows.proofs.Writes.{one_more, others_kept}
 use Rattle.rows.proofs.page.write_line.Goals as goal

@@ -1,5 +1,5 @@
 use Rattle.std.proofs.Common.{◌≡◌, ℕ, suc, ◌+◌, ◌<◌, ◌≤◌, ◌⊎◌, List, length, get_or}
-use Rattle.video.specs.Composition.{shape_of, width}
+use Rattle.video.specs.Composition.{shape_of}
 use Rattle.rows.specs.Page.{picture}
 use Rattle.rows.specs.Stands.{Finds}
 use Rattle.rows.proofs.page.write_line.Given as goal

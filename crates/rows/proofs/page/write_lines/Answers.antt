@@ -1,4 +1,4 @@
-use Rattle.std.proofs.Common.{◌≡◌, ℕ, suc, ◌+◌, ◌*◌, ◌<◌, ◌≤◌, sym, refl, ap, ◌∙◌, inl, inr, arith}
+use Rattle.std.proofs.Common.{ℕ, suc, ◌∙◌, inr, arith}
 use Rattle.video.specs.Composition.{shape_of, width}
 use Rattle.rows.specs.Page.{picture}
 use Rattle.rows.proofs.Writes.{line_more, line_fits}

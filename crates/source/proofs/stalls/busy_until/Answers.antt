@@ -1,4 +1,4 @@
-use Rattle.std.proofs.Common.{◌≡◌, sym, refl, ◌∙◌, arith}
+use Rattle.std.proofs.Common.{sym, refl, ◌∙◌, arith}
 use Rattle.source.proofs.Scan.{held, left_more, span_small, busy_done}
 use Rattle.source.proofs.stalls.busy_until.Goals as goal
 

@@ -1,4 +1,4 @@
-use Rattle.std.proofs.Common.{◌≡◌, ◌<◌, ◌≤◌, sym, refl, ◌∙◌, arith}
+use Rattle.std.proofs.Common.{◌<◌, ◌≤◌, sym, ◌∙◌, arith}
 use Rattle.source.proofs.Scan.{span_at, none_has, busy_done}
 use Rattle.source.proofs.stalls.free_until.Goals as goal
 use Rattle.source.proofs.stalls.free_until.Goals.{then-span-clock, else-span-clock}

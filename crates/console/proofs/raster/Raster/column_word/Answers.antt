@@ -1,9 +1,8 @@
 -- Where the looks are at hand, the column's word is its look with the line count.
-use Rattle.std.proofs.Common.{◌≡◌, ℕ, ◌+◌, ◌*◌, ◌<◌, Bool, true, false, not, ◌||◌, leb, Some, sym, refl, ap, ◌∙◌, arith}
+use Rattle.std.proofs.Common.{◌≡◌, ◌+◌, ◌*◌, ◌<◌, Bool, true, false, not, ◌||◌, leb, Some, ap, ◌∙◌, arith}
 use Rattle.std.proofs.lemmas.Bool.Decides.{nat_tests}
-use Rattle.video.specs.Composition.{shape_of, line_count}
-use Rattle.video.specs.Picture.{scan_line, look, cell_word}
-use Rattle.video.specs.declared.scan.ScanLine.{ScanLine}
+use Rattle.video.specs.Composition.{shape_of}
+use Rattle.video.specs.Picture.{look, cell_word}
 use Rattle.video.proofs.Looks.{word_by_look, look_small}
 use Rattle.rows.specs.Buffer.{column_cell}
 use Rattle.rows.specs.Model.{shown_of}

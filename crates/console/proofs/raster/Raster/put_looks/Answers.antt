@@ -1,5 +1,5 @@
 -- Each turn puts one column more.
-use Rattle.std.proofs.Common.{◌≡◌, ℕ, ◌+◌, ◌-◌, ◌*◌, ◌<◌, List, ◌++◌, vec_items, refl, ap, ◌∙◌, arith}
+use Rattle.std.proofs.Common.{◌≡◌, ℕ, ◌+◌, ◌-◌, ◌<◌, List, ◌++◌, vec_items, refl, ap, ◌∙◌, arith}
 use Rattle.video.specs.Composition.{Shape, shape_of}
 use Rattle.video.specs.Picture.{look}
 use Rattle.video.proofs.Looks.{look_small}

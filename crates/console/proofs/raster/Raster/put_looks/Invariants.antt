@@ -1,4 +1,4 @@
-use Rattle.std.proofs.Common.{◌≡◌, ◌+◌, ◌-◌, ◌≤◌, ◌++◌, vec_items, vec_len, vec_capacity}
+use Rattle.std.proofs.Common.{◌≡◌, ◌+◌, ◌-◌, ◌++◌, vec_items, vec_len, vec_capacity}
 use Rattle.video.specs.Composition.{shape_of}
 use Rattle.rows.specs.Model.{shown_of}
 use Rattle.console.specs.Idle.{looked}

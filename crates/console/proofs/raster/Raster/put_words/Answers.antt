@@ -1,5 +1,5 @@
 -- A drawn row gives its columns' looks, and every other clock is dark.
-use Rattle.std.proofs.Common.{◌≡◌, vec_items, sym, ap, ◌∙◌}
+use Rattle.std.proofs.Common.{vec_items, sym, ap, ◌∙◌}
 use Rattle.video.specs.Composition.{shape_of}
 use Rattle.video.specs.Picture.{dark_word}
 use Rattle.frame.specs.Machine.{hrtc, vrtc}

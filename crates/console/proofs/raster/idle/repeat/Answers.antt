@@ -1,5 +1,5 @@
 -- Each turn puts one word more.
-use Rattle.std.proofs.Common.{◌≡◌, ℕ, ◌-◌, List, ◌++◌, vec_items, refl, ap, arith}
+use Rattle.std.proofs.Common.{◌≡◌, ℕ, ◌-◌, List, ◌++◌, vec_items, refl, arith}
 use Rattle.frame.specs.declared.call.Answer.{Answer}
 use Rattle.console.specs.Idle.{repeated}
 use Rattle.console.proofs.Idles.{repeated_more, repeated_done}

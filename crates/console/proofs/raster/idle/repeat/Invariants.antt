@@ -1,4 +1,4 @@
-use Rattle.std.proofs.Common.{◌≡◌, ◌+◌, ◌-◌, ◌≤◌, ◌++◌, vec_items, vec_len, vec_capacity}
+use Rattle.std.proofs.Common.{◌≡◌, ◌+◌, ◌-◌, ◌++◌, vec_items, vec_len, vec_capacity}
 use Rattle.console.specs.Idle.{repeated}
 use Rattle.console.proofs.raster.idle.repeat.Given as goal
 

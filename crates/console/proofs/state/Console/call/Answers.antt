@@ -1,9 +1,8 @@
 -- Each call does what the rules say of it.
-use Rattle.std.proofs.Common.{◌≡◌, sym, refl, ap, ◌∙◌}
-use Rattle.source.specs.Meaning.{Meaning}
+use Rattle.std.proofs.Common.{refl, ap, ◌∙◌}
 use Rattle.frame.specs.declared.call.Answer.TheVariants.{Byte}
 use Rattle.frame.specs.declared.call.Call.TheVariants.{Command, Parameter, Status, Read, Stroke, Clock}
-use Rattle.frame.specs.Ports.{State, command_refusal, parameter_refusal}
+use Rattle.frame.specs.Ports.{command_refusal, parameter_refusal}
 use Rattle.frame.specs.History.{call_answer, call_state, call_source}
 use Rattle.console.specs.Model.{state_of}
 use Rattle.console.specs.Playing.{told}

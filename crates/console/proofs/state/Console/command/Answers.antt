@@ -1,5 +1,5 @@
 -- The byte is a command, and what was waiting is dropped, with or without a complaint.
-use Rattle.std.proofs.Common.{◌≡◌, Bool, true, ◌||◌, sym, refl, ap, ◌∙◌, rules}
+use Rattle.std.proofs.Common.{◌≡◌, true, refl, ◌∙◌, rules}
 use Rattle.frame.specs.declared.pending.Pending.{Pending}
 use Rattle.frame.specs.declared.pending.Pending.TheVariants.{Nothing, Reset1, Reset2, Reset3, Reset4, CursorColumn, CursorRow, PenColumn, PenRow}
 use Rattle.frame.specs.Ports.{awaits_write}

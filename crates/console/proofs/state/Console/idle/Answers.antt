@@ -1,5 +1,5 @@
 -- The clocks that were played at once lead where they lead one by one.
-use Rattle.std.proofs.Common.{◌≡◌, Some, vec_items, sym, ap, ◌∙◌, arith}
+use Rattle.std.proofs.Common.{vec_items, ap, arith}
 use Rattle.video.specs.Composition.{Shape, shape_of}
 use Rattle.frame.specs.Ports.{Core, State}
 use Rattle.console.specs.Raster.{core_of}

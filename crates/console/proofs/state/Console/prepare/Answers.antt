@@ -1,5 +1,5 @@
 -- A frame begins, a row time begins, or neither.
-use Rattle.std.proofs.Common.{◌≡◌, sym, ◌∙◌}
+use Rattle.std.proofs.Common.{sym, ◌∙◌}
 use Rattle.video.specs.Composition.{shape_of}
 use Rattle.console.specs.Model.{state_of}
 use Rattle.console.proofs.Joins.{frame_begins, row_begins, none_begins}

@@ -1,4 +1,4 @@
-use Rattle.std.proofs.Common.{◌≡◌, ℕ, ◌-◌, ◌<◌, ◌≤◌, length, get_or}
+use Rattle.std.proofs.Common.{◌≡◌, ℕ, ◌-◌, ◌<◌, ◌≤◌, get_or}
 use Rattle.frame.specs.declared.call.Call.TheVariants.{Command, Clock}
 use Rattle.console.proofs.state.play.clocks_ahead.Given as goal
 

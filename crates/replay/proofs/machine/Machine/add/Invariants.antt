@@ -1,4 +1,4 @@
-use Rattle.std.proofs.Common.{◌≡◌, ◌+◌, ◌-◌, ◌≤◌, false, ◌++◌, vec_items, vec_len, vec_capacity}
+use Rattle.std.proofs.Common.{◌≡◌, ◌+◌, ◌-◌, false, ◌++◌, vec_items, vec_len}
 use Rattle.replay.specs.Requests.{bytes_from}
 use Rattle.replay.proofs.machine.Machine.add.Given as goal
 

@@ -1,4 +1,4 @@
-use Rattle.std.proofs.Common.{◌≡◌, ℕ, ◌≤◌, length, vec_items, vec_len, sym, ap, ◌∙◌, subst, arith}
+use Rattle.std.proofs.Common.{ℕ, ◌≤◌, length, sym, ap, ◌∙◌, subst}
 use Rattle.replay.specs.Requests.{requested, FitsRequest}
 use Rattle.replay.specs.Model.{desk_of}
 use Rattle.replay.proofs.Desks.{few_answers}

@@ -1,4 +1,4 @@
-use Rattle.std.proofs.Common.{◌≡◌, length, vec_items, vec_len}
+use Rattle.std.proofs.Common.{length, vec_items, vec_len}
 use Rattle.std.proofs.lemmas.Result.{MatchResult-weaker}
 use Rattle.replay.specs.Model.{desk_of}
 use Rattle.replay.proofs.Desks.{page_fits, some_clocks, clocks_fit, clocks_performed}

@@ -1,4 +1,4 @@
-use Rattle.std.proofs.Common.{◌≡◌, vec_items, refl, ap, ◌∙◌}
+use Rattle.std.proofs.Common.{vec_items}
 use Rattle.std.proofs.lemmas.Result.{err_from_is_err_and}
 use Rattle.replay.specs.Model.{stage_of, held_of}
 use Rattle.replay.proofs.Feeding.{fed_more, fed_all, fed_none, fed_kept}

@@ -1,4 +1,4 @@
-use Rattle.std.proofs.Common.{◌≡◌, ℕ, ◌+◌, vec_items, refl, ap, ◌∙◌, arith}
+use Rattle.std.proofs.Common.{vec_items, refl, ap}
 use Rattle.std.proofs.lemmas.Result.{err_from_is_err_and}
 use Rattle.replay.specs.Desk.{Desk}
 use Rattle.replay.specs.Model.{desk_of, stage_of, held_of}

@@ -1,5 +1,5 @@
 -- One column more is worked out, and in the end all are those of every line of the kind.
-use Rattle.std.proofs.Common.{◌≡◌, ℕ, ◌<◌, Some, sym, ap, ◌∙◌, zero-add, length-set, arith}
+use Rattle.std.proofs.Common.{◌≡◌, ℕ, Some, sym, ap, ◌∙◌, zero-add, length-set, arith}
 use Rattle.video.specs.Composition.{Shape, shape_of}
 use Rattle.video.specs.Picture.{scan_line, look}
 use Rattle.video.specs.declared.scan.ScanLine.{ScanLine}

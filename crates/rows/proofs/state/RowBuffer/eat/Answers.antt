@@ -1,6 +1,5 @@
-use Rattle.std.proofs.Common.{◌≡◌, ◌+◌, ◌<◌, ◌≤◌, List, [], ◌∷◌, sym, refl, ap, ◌∙◌, arith, rules}
-use Rattle.rows.specs.declared.kinds.Position.{Position}
-use Rattle.rows.specs.Buffer.{Buffer, Taken, Shown, eat, took, fills, puts}
+use Rattle.std.proofs.Common.{[], ◌∷◌, refl}
+use Rattle.rows.specs.Buffer.{puts}
 use Rattle.rows.specs.Model.{taken_of, shown_of}
 use Rattle.rows.proofs.Steps.{eat_joined}
 use Rattle.rows.proofs.state.RowBuffer.eat.Goals as goal

@@ -1,5 +1,5 @@
 -- A column inside the row is the one stored, and any other is dark.
-use Rattle.std.proofs.Common.{◌≡◌, ℕ, ◌<◌, ◌≤◌, take, refl, ap, ◌∙◌, arith}
+use Rattle.std.proofs.Common.{◌≡◌, take, refl, ap, ◌∙◌, arith}
 use Rattle.rows.specs.Buffer.{resolved, cell_of}
 use Rattle.rows.proofs.Columns.{inside, behind}
 use Rattle.rows.proofs.state.Showing.cell.Goals as goal

@@ -1,6 +1,5 @@
-use Rattle.std.proofs.Common.{◌≡◌, ℕ, suc, ◌+◌, List, sym, refl, ap, ◌∙◌, arith}
-use Rattle.rows.specs.declared.kinds.Position.{Position}
-use Rattle.rows.specs.Buffer.{put, stored, counted}
+use Rattle.std.proofs.Common.{◌≡◌, suc, ◌+◌, sym, refl, ap, ◌∙◌, arith}
+use Rattle.rows.specs.Buffer.{stored, counted}
 use Rattle.rows.proofs.Steps.{put_joined, stored_rest}
 use Rattle.rows.proofs.state.Showing.put.Goals as goal
 

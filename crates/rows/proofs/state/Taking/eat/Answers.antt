@@ -1,10 +1,9 @@
-use Rattle.std.proofs.Common.{◌≡◌, ℕ, suc, ◌+◌, ◌-◌, ◌*◌, ◌%◌, ◌<◌, ◌≤◌, Bool, true, false, not, ◌&&◌, ◌||◌, eqb, leb, List, [], ◌∷◌, length, Option, sym, refl, ap, ◌∙◌, arith}
+use Rattle.std.proofs.Common.{◌≡◌, ℕ, ◌+◌, ◌-◌, ◌*◌, ◌%◌, ◌≤◌, Bool, false, ◌||◌, eqb, leb, List, [], ◌∷◌, length, Option, sym, refl, ap, ◌∙◌, arith}
 use Rattle.std.proofs.lemmas.Bool.{or_parts, eqb-false}
 use Rattle.rows.specs.declared.kinds.Position.{Position}
 use Rattle.rows.specs.declared.kinds.Phase.{Phase}
-use Rattle.rows.specs.Lists.{some}
 use Rattle.rows.specs.Positions.{stops_all}
-use Rattle.rows.specs.Buffer.{done, full, fills, phase_after, took}
+use Rattle.rows.specs.Buffer.{done, full, fills, phase_after}
 use Rattle.rows.specs.Bound.{ahead}
 use Rattle.rows.specs.Model.{taken_of, listed}
 use Rattle.rows.specs.declared.state.Taking.{Taking}

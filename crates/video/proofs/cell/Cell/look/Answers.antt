@@ -1,5 +1,5 @@
 -- Each kind of cell has its own equation.
-use Rattle.std.proofs.Common.{◌≡◌, false, ap, ◌∙◌}
+use Rattle.std.proofs.Common.{false, ap, ◌∙◌}
 use Rattle.video.specs.Composition.{shape_of}
 use Rattle.video.specs.Picture.{signals_word, finished, look}
 use Rattle.video.specs.declared.signals.Signals.{Signals}
