@@ -1,3 +1,3 @@
 mod Numerals
-mod Others
+mod Rows
 mod Spans

@@ -1,5 +1,6 @@
 -- The bus between the page and the console.
 use Rattle.std.specs.Prelude.{ℕ, cond, List, [], ◌∷◌, length, Some, None, codes, Option, ◌==◌}
+use Rattle.std.specs.List.{slice_split}
 use Rattle.std.specs.Str.{bytes_eq}
 use Rattle.source.specs.declared.stalls.Span.{Span}
 use Rattle.arguments.specs.declared.bus.Bus.{Bus}
@@ -36,15 +37,9 @@ by_kind k t = cond (bytes_eq k (codes "turns")) (turns_of t) (cond (bytes_eq k (
 abbrev pub bus_of : List ℕ → Option Line
 bus_of t = cond (bytes_eq t (codes "free")) (Some free_line) (cond (before 58 t == length t) None (by_kind (front 58 t) (behind 58 t)))
 
--- c in front of the first of some pieces
-abbrev pub in_front : ℕ → List (List ℕ) → List (List ℕ)
-in_front c [] = (c ∷ []) ∷ []
-in_front c (p ∷ ps) = (c ∷ p) ∷ ps
-
 -- the pieces of a text, cut at each mark
 abbrev pub pieces : (mark : ℕ) → List ℕ → List (List ℕ)
-pieces m [] = [] ∷ []
-pieces m (c ∷ cs) = cond (c == m) ([] ∷ pieces m cs) (in_front c (pieces m cs))
+pieces m t = slice_split (λ c. c == m) t
 
 abbrev pub one_span : Option (ℕ × ℕ) → Option Span
 one_span None = None

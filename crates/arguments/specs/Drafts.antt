@@ -3,9 +3,9 @@ use Rattle.std.specs.Prelude.{ℕ, Bool, true, false, cond, List, Some, None, Ok
 use Rattle.std.specs.Borrow.{Bor}
 use Rattle.arguments.specs.declared.fault.ArgumentFault.{ArgumentFault}
 use Rattle.arguments.specs.declared.fault.ArgumentFault.TheVariants.{NoArguments, NoStart, NoPage, NoRow, NoBus, NoFrames, NoCursor, BadComposition, BadStart, BadRow, BadBus, BadFrames, BadCursor, FramesWithoutBus, UnknownOption as BadOption, TooMany}
-use Rattle.arguments.specs.declared.figures.ResetParameters.{ResetParameters}
+use Rattle.video.specs.declared.parameters.ResetParameters.{ResetParameters}
 use Rattle.arguments.specs.declared.request.Awaited.{Awaited}
-use Rattle.arguments.specs.declared.request.Awaited.TheVariants.{Nothing, RowNumber, BusKind, FrameCount, CursorPlace}
+use Rattle.arguments.specs.declared.request.Awaited.TheVariants.{RowNumber, BusKind, FrameCount, CursorPlace}
 use Rattle.arguments.specs.declared.request.Playing.{Playing}
 use Rattle.arguments.specs.declared.request.Asked.{Asked}
 use Rattle.arguments.specs.declared.request.Asked.TheVariants.{Help as AskedHelp, Listing}
@@ -27,7 +27,7 @@ pub record Drafted : Type 0 where
   pub bus : Option Line
   pub frames : Option ℕ
   pub help : Bool
-  pub awaited : Awaited
+  pub awaited : Option Awaited
 
 abbrev pub named : Option (Bor (List ℕ)) → Option (List ℕ)
 named None = None
@@ -37,7 +37,7 @@ abbrev pub drafted : Draft → Drafted
 drafted d = record { parameters = d.parameters; start = d.start; page = named d.page; row = d.row; words = d.words; cursor = d.cursor; bus = lined d.bus; frames = d.frames; help = d.help; awaited = d.awaited }
 
 abbrev pub blank_draft : Drafted
-blank_draft = record { parameters = None; start = None; page = None; row = None; words = false; cursor = None; bus = None; frames = None; help = false; awaited = Nothing }
+blank_draft = record { parameters = None; start = None; page = None; row = None; words = false; cursor = None; bus = None; frames = None; help = false; awaited = None }
 
 -- COMPOSITION, START and PAGEFILE, each where it can be read
 abbrev pub with_parameters : Drafted → Option ResetParameters → Result Drafted ArgumentFault
@@ -67,23 +67,23 @@ operand s t = behind_parameters s.parameters s t
 -- the values of --row, --bus, --frames and --cursor
 abbrev pub with_row : Drafted → Option ℕ → Result Drafted ArgumentFault
 with_row s None = Err BadRow
-with_row s (Some v) = Ok (record { parameters = s.parameters; start = s.start; page = s.page; row = Some v; words = s.words; cursor = s.cursor; bus = s.bus; frames = s.frames; help = s.help; awaited = Nothing })
+with_row s (Some v) = Ok (record { parameters = s.parameters; start = s.start; page = s.page; row = Some v; words = s.words; cursor = s.cursor; bus = s.bus; frames = s.frames; help = s.help; awaited = None })
 
 abbrev pub with_bus : Drafted → Option Line → Result Drafted ArgumentFault
 with_bus s None = Err BadBus
-with_bus s (Some v) = Ok (record { parameters = s.parameters; start = s.start; page = s.page; row = s.row; words = s.words; cursor = s.cursor; bus = Some v; frames = s.frames; help = s.help; awaited = Nothing })
+with_bus s (Some v) = Ok (record { parameters = s.parameters; start = s.start; page = s.page; row = s.row; words = s.words; cursor = s.cursor; bus = Some v; frames = s.frames; help = s.help; awaited = None })
 
 abbrev pub with_frames : Drafted → Option ℕ → Result Drafted ArgumentFault
 with_frames s None = Err BadFrames
-with_frames s (Some v) = Ok (record { parameters = s.parameters; start = s.start; page = s.page; row = s.row; words = s.words; cursor = s.cursor; bus = s.bus; frames = Some v; help = s.help; awaited = Nothing })
+with_frames s (Some v) = Ok (record { parameters = s.parameters; start = s.start; page = s.page; row = s.row; words = s.words; cursor = s.cursor; bus = s.bus; frames = Some v; help = s.help; awaited = None })
 
 abbrev pub with_cursor : Drafted → Option (ℕ × ℕ) → Result Drafted ArgumentFault
 with_cursor s None = Err BadCursor
-with_cursor s (Some v) = Ok (record { parameters = s.parameters; start = s.start; page = s.page; row = s.row; words = s.words; cursor = Some v; bus = s.bus; frames = s.frames; help = s.help; awaited = Nothing })
+with_cursor s (Some v) = Ok (record { parameters = s.parameters; start = s.start; page = s.page; row = s.row; words = s.words; cursor = Some v; bus = s.bus; frames = s.frames; help = s.help; awaited = None })
 
 -- an option whose value comes next
 abbrev pub awaiting : Awaited → Drafted → Result Drafted ArgumentFault
-awaiting a s = Ok (record { parameters = s.parameters; start = s.start; page = s.page; row = s.row; words = s.words; cursor = s.cursor; bus = s.bus; frames = s.frames; help = s.help; awaited = a })
+awaiting a s = Ok (record { parameters = s.parameters; start = s.start; page = s.page; row = s.row; words = s.words; cursor = s.cursor; bus = s.bus; frames = s.frames; help = s.help; awaited = Some a })
 
 abbrev pub by_word : Word → Drafted → List ℕ → Result Drafted ArgumentFault
 by_word Help s t = Ok (record { parameters = s.parameters; start = s.start; page = s.page; row = s.row; words = s.words; cursor = s.cursor; bus = s.bus; frames = s.frames; help = true; awaited = s.awaited })
@@ -95,12 +95,12 @@ by_word Cursor s t = awaiting CursorPlace s
 by_word UnknownOption s t = Err BadOption
 by_word Operand s t = operand s t
 
-abbrev pub by_awaited : Awaited → Drafted → List ℕ → Result Drafted ArgumentFault
-by_awaited Nothing s t = by_word (word_of t) s t
-by_awaited RowNumber s t = with_row s (row_of t)
-by_awaited BusKind s t = with_bus s (bus_of t)
-by_awaited FrameCount s t = with_frames s (frames_of t)
-by_awaited CursorPlace s t = with_cursor s (cursor_of t)
+abbrev pub by_awaited : Option Awaited → Drafted → List ℕ → Result Drafted ArgumentFault
+by_awaited None s t = by_word (word_of t) s t
+by_awaited (Some RowNumber) s t = with_row s (row_of t)
+by_awaited (Some BusKind) s t = with_bus s (bus_of t)
+by_awaited (Some FrameCount) s t = with_frames s (frames_of t)
+by_awaited (Some CursorPlace) s t = with_cursor s (cursor_of t)
 
 -- one argument more
 abbrev pub taken : Drafted → List ℕ → Result Drafted ArgumentFault
@@ -140,12 +140,12 @@ all_there (Some p) None n s = Err NoStart
 all_there (Some p) (Some b) None s = Err NoPage
 all_there (Some p) (Some b) (Some n) s = wished p b n s (played s)
 
-abbrev pub unless_awaited : Awaited → Drafted → Result Wish ArgumentFault
-unless_awaited RowNumber s = Err NoRow
-unless_awaited BusKind s = Err NoBus
-unless_awaited FrameCount s = Err NoFrames
-unless_awaited CursorPlace s = Err NoCursor
-unless_awaited Nothing s = all_there s.parameters s.start s.page s
+abbrev pub unless_awaited : Option Awaited → Drafted → Result Wish ArgumentFault
+unless_awaited (Some RowNumber) s = Err NoRow
+unless_awaited (Some BusKind) s = Err NoBus
+unless_awaited (Some FrameCount) s = Err NoFrames
+unless_awaited (Some CursorPlace) s = Err NoCursor
+unless_awaited None s = all_there s.parameters s.start s.page s
 
 -- behind the last argument
 abbrev pub finished : Drafted → Result Wish ArgumentFault

@@ -1,6 +1,6 @@
 -- The figures among the arguments.
 use Rattle.std.specs.Prelude.{ℕ, ◌+◌, ◌*◌, cond, ◌&&◌, List, length, Some, None, Option, ◌==◌, nat_le, slice_index}
-use Rattle.arguments.specs.declared.figures.ResetParameters.{ResetParameters}
+use Rattle.video.specs.declared.parameters.ResetParameters.{ResetParameters}
 use Rattle.arguments.specs.Hex.{byte_of}
 use Rattle.arguments.specs.Numbers.{then, decimal, figure_of, pair_of}
 

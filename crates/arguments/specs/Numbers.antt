@@ -1,5 +1,6 @@
 -- Decimal numbers, alone and in pairs.
 use Rattle.std.specs.Prelude.{ℕ, ◌+◌, ◌-◌, ◌*◌, cond, ◌&&◌, List, [], ◌∷◌, length, take, drop, Some, None, Option, ◌==◌, nat_le}
+use Rattle.std.specs.List.{position_or_len}
 
 -- f of the value that is there
 abbrev pub then : {A : Type 0} → Option ℕ → (ℕ → Option A) → Option A
@@ -24,8 +25,7 @@ figure_of most t = cond (length t == 0) None (figure_after most 0 t)
 
 -- the bytes before the first mark
 abbrev pub before : (mark : ℕ) → List ℕ → ℕ
-before m [] = 0
-before m (c ∷ cs) = cond (c == m) 0 (before m cs + 1)
+before m t = position_or_len (λ c. c == m) t
 
 abbrev pub front : (mark : ℕ) → List ℕ → List ℕ
 front m t = take (before m t) t

@@ -1,9 +1,8 @@
 // The bus between the page and the console.
 ghost use Rattle.std.specs.Prelude.{◌≡◌, ℕ, IfOk, Some, None, MatchOption};
-ghost use Rattle.std.specs.Str.{bytes_eq};
 ghost use Rattle.arguments.specs.Buses.{lined, turns_of, bus_of, span_of, spans_of};
 
-use crate::numbers::{before, behind, pair};
+use crate::numbers::{pair, parted};
 use source::Span;
 use std::alloc::{AllocError, Global};
 
@@ -14,12 +13,6 @@ pub enum Bus<'a> {
     Turns(u8, u8),
     // the spans as they are written
     Spans(&'a [u8]),
-}
-
-fn same(text: &[u8], word: &[u8]) -> bool
-    ensures { result ≡ bytes_eq text.now word.now }
-{
-    text == word
 }
 
 fn turns(figures: &[u8]) -> Option<Bus<'_>>
@@ -33,21 +26,14 @@ fn turns(figures: &[u8]) -> Option<Bus<'_>>
 pub fn read_bus(text: &[u8]) -> Option<Bus<'_>>
     ensures { lined result ≡ bus_of text.now }
 {
-    if same(text, b"free") {
+    if matches!(text, b"free") {
         return Some(Bus::Free);
     }
-    let colon = before(text, b':');
-    if colon == text.len() {
-        return None;
+    match parted(text, b':')? {
+        (b"turns", figures) => turns(figures),
+        (b"spans", figures) => Some(Bus::Spans(figures)),
+        _ => None,
     }
-    let figures = behind(text, colon);
-    if same(&text[..colon], b"turns") {
-        return turns(figures);
-    }
-    if same(&text[..colon], b"spans") {
-        return Some(Bus::Spans(figures));
-    }
-    None
 }
 
 // The first clock of a span, a plus and its length.
@@ -63,16 +49,11 @@ pub fn read_spans(heap: Global, text: &[u8]) -> Result<Option<Vec<Span>>, AllocE
     ensures { IfOk result (λ o. MatchOption o (spans_of text.now ≡ None) (λ v. spans_of text.now ≡ Some v.items)) }
 {
     let mut spans = Vec::new(heap);
-    let mut rest = text;
-    loop {
-        let comma = before(rest, b',');
-        let Some(span) = span(&rest[..comma]) else {
+    for part in text.split(|c| *c == b',') {
+        let Some(span) = span(part) else {
             return Ok(None);
         };
         spans.push(span)?;
-        if comma == rest.len() {
-            return Ok(Some(spans));
-        }
-        rest = behind(rest, comma);
     }
+    Ok(Some(spans))
 }

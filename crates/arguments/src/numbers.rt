@@ -1,15 +1,12 @@
 // Decimal numbers, alone and in pairs.
-ghost use Rattle.std.specs.Prelude.{◌≡◌, ℕ, ◌+◌, ◌*◌, ◌<◌, ◌≤◌, length, drop, IfSome};
-ghost use Rattle.arguments.specs.Numbers.{decimal, grown, figure_of, before, pair_of};
+ghost use Rattle.std.specs.Prelude.{◌≡◌, ℕ, ◌<◌, ◌≤◌, length, IfSome, MatchOption};
+ghost use Rattle.arguments.specs.Numbers.{decimal, grown, figure_of, before, front, behind, pair_of};
 
-pub(crate) fn decimal(c: u8) -> Option<u16>
+fn decimal(c: u8) -> Option<u32>
     ensures value { result ≡ decimal c }
     ensures small { IfSome result (λ v. v < 10) }
 {
-    match c {
-        b'0'..=b'9' => Some((c - b'0') as u16),
-        _ => None,
-    }
+    (c as char).to_digit(10)
 }
 
 // The number with one digit more, if it is not above `most`.
@@ -25,6 +22,7 @@ fn grown(most: u32, number: u32, c: u8) -> Option<u32>
 }
 
 // A number from 0 to `most` in any number of digits.
+#[tactic(auto, using(crate::proofs::Numerals::figure_more, crate::proofs::Numerals::figure_done))]
 pub(crate) fn figure(text: &[u8], most: u32) -> Option<u32>
     ensures value { result ≡ figure_of most text.now }
     ensures small { IfSome result (λ v. v ≤ most) }
@@ -39,28 +37,12 @@ pub(crate) fn figure(text: &[u8], most: u32) -> Option<u32>
     Some(number)
 }
 
-// How many bytes stand before the first mark, all of them where there is none.
-pub(crate) fn before(text: &[u8], mark: u8) -> usize
-    ensures value { result ≡ before mark text.now }
-    ensures inside { result ≤ length text.now }
+// What stands before the first mark, and what stands behind it.
+pub(crate) fn parted(text: &[u8], mark: u8) -> Option<(&[u8], &[u8])>
+    ensures { MatchOption result (before mark text.now ≡ length text.now) (λ p. (before mark text.now < length text.now) × ((p.0.now ≡ front mark text.now) × (p.1.now ≡ behind mark text.now))) }
 {
-    let mut i = 0;
-    while i < text.len() {
-        if text[i] == mark {
-            break;
-        }
-        i += 1;
-    }
-    i
-}
-
-// What stands behind a place.
-pub(crate) fn behind(text: &[u8], place: usize) -> &[u8]
-    requires { place < length text.now }
-    ensures value { result.now ≡ drop (place + 1) text.now }
-    ensures shorter { length result.now < length text.now }
-{
-    &text[place + 1..]
+    let place = text.iter().position(|c| *c == mark)?;
+    Some((&text[..place], &text[place + 1..]))
 }
 
 // Two numbers from 0 to `most` with a mark between them.
@@ -68,11 +50,6 @@ pub(crate) fn pair(text: &[u8], mark: u8, most: u32) -> Option<(u32, u32)>
     ensures value { result ≡ pair_of mark most text.now }
     ensures small { IfSome result (λ v. (v.0 ≤ most) × (v.1 ≤ most)) }
 {
-    let place = before(text, mark);
-    if place == text.len() {
-        return None;
-    }
-    let first = figure(&text[..place], most)?;
-    let second = figure(behind(text, place), most)?;
-    Some((first, second))
+    let (first, second) = parted(text, mark)?;
+    Some((figure(first, most)?, figure(second, most)?))
 }

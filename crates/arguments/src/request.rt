@@ -5,8 +5,9 @@ ghost use Rattle.arguments.specs.Words.{word_of};
 
 use crate::bus::{Bus, read_bus};
 use crate::fault::ArgumentFault;
-use crate::figures::{ResetParameters, cursor, frames, parameters, row, start};
+use crate::figures::{cursor, frames, parameters, row, start};
 use crate::word::Word;
+use video::parameters::ResetParameters;
 
 #[derive(Clone, Copy)]
 pub struct Request<'a> {
@@ -41,7 +42,6 @@ pub enum Asked<'a> {
 // The option whose value comes next.
 #[derive(Clone, Copy)]
 enum Awaited {
-    Nothing,
     RowNumber,
     BusKind,
     FrameCount,
@@ -60,7 +60,7 @@ pub struct Draft<'a> {
     bus: Option<Bus<'a>>,
     frames: Option<u16>,
     help: bool,
-    awaited: Awaited,
+    awaited: Option<Awaited>,
 }
 
 impl<'a> Draft<'a> {
@@ -77,7 +77,7 @@ impl<'a> Draft<'a> {
             bus: None,
             frames: None,
             help: false,
-            awaited: Awaited::Nothing,
+            awaited: None,
         }
     }
 
@@ -88,25 +88,21 @@ impl<'a> Draft<'a> {
             (λ e. taken (drafted self.old) text.now ≡ Err e) }
     {
         match self.awaited {
-            Awaited::Nothing => return self.word(text),
-            Awaited::RowNumber => match row(text.as_bytes()) {
-                None => return Err(ArgumentFault::BadRow),
-                number => self.row = number,
-            },
-            Awaited::BusKind => match read_bus(text.as_bytes()) {
-                None => return Err(ArgumentFault::BadBus),
-                bus => self.bus = bus,
-            },
-            Awaited::FrameCount => match frames(text.as_bytes()) {
-                None => return Err(ArgumentFault::BadFrames),
-                number => self.frames = number,
-            },
-            Awaited::CursorPlace => match cursor(text.as_bytes()) {
-                None => return Err(ArgumentFault::BadCursor),
-                place => self.cursor = place,
-            },
+            None => return self.word(text),
+            Some(Awaited::RowNumber) => {
+                self.row = Some(row(text.as_bytes()).ok_or(ArgumentFault::BadRow)?);
+            }
+            Some(Awaited::BusKind) => {
+                self.bus = Some(read_bus(text.as_bytes()).ok_or(ArgumentFault::BadBus)?);
+            }
+            Some(Awaited::FrameCount) => {
+                self.frames = Some(frames(text.as_bytes()).ok_or(ArgumentFault::BadFrames)?);
+            }
+            Some(Awaited::CursorPlace) => {
+                self.cursor = Some(cursor(text.as_bytes()).ok_or(ArgumentFault::BadCursor)?);
+            }
         }
-        self.awaited = Awaited::Nothing;
+        self.awaited = None;
         Ok(())
     }
 
@@ -119,10 +115,10 @@ impl<'a> Draft<'a> {
         match Word::read(text) {
             Word::Help => self.help = true,
             Word::Words => self.words = true,
-            Word::Row => self.awaited = Awaited::RowNumber,
-            Word::Bus => self.awaited = Awaited::BusKind,
-            Word::Frames => self.awaited = Awaited::FrameCount,
-            Word::Cursor => self.awaited = Awaited::CursorPlace,
+            Word::Row => self.awaited = Some(Awaited::RowNumber),
+            Word::Bus => self.awaited = Some(Awaited::BusKind),
+            Word::Frames => self.awaited = Some(Awaited::FrameCount),
+            Word::Cursor => self.awaited = Some(Awaited::CursorPlace),
             Word::UnknownOption => return Err(ArgumentFault::UnknownOption),
             Word::Operand => return self.operand(text),
         }
@@ -136,14 +132,13 @@ impl<'a> Draft<'a> {
             (λ e. operand (drafted self.old) text.now ≡ Err e) }
     {
         match (self.parameters, self.start, self.page) {
-            (None, _, _) => match parameters(text.as_bytes()) {
-                None => return Err(ArgumentFault::BadComposition),
-                parameters => self.parameters = parameters,
-            },
-            (Some(_), None, _) => match start(text.as_bytes()) {
-                None => return Err(ArgumentFault::BadStart),
-                start => self.start = start,
-            },
+            (None, _, _) => {
+                let parameters = parameters(text.as_bytes()).ok_or(ArgumentFault::BadComposition)?;
+                self.parameters = Some(parameters);
+            }
+            (Some(_), None, _) => {
+                self.start = Some(start(text.as_bytes()).ok_or(ArgumentFault::BadStart)?);
+            }
             (Some(_), Some(_), None) => self.page = Some(text),
             (Some(_), Some(_), Some(_)) => return Err(ArgumentFault::TooMany),
         }
@@ -160,26 +155,21 @@ impl<'a> Draft<'a> {
             return Ok(Asked::Help);
         }
         match self.awaited {
-            Awaited::RowNumber => return Err(ArgumentFault::NoRow),
-            Awaited::BusKind => return Err(ArgumentFault::NoBus),
-            Awaited::FrameCount => return Err(ArgumentFault::NoFrames),
-            Awaited::CursorPlace => return Err(ArgumentFault::NoCursor),
-            Awaited::Nothing => {}
+            Some(Awaited::RowNumber) => return Err(ArgumentFault::NoRow),
+            Some(Awaited::BusKind) => return Err(ArgumentFault::NoBus),
+            Some(Awaited::FrameCount) => return Err(ArgumentFault::NoFrames),
+            Some(Awaited::CursorPlace) => return Err(ArgumentFault::NoCursor),
+            None => {}
         }
-        match (self.parameters, self.start, self.page) {
-            (None, _, _) => Err(ArgumentFault::NoArguments),
-            (Some(_), None, _) => Err(ArgumentFault::NoStart),
-            (Some(_), Some(_), None) => Err(ArgumentFault::NoPage),
-            (Some(parameters), Some(start), Some(page)) => Ok(Asked::Listing(Request {
-                parameters,
-                start,
-                page,
-                row: self.row,
-                words: self.words,
-                cursor: self.cursor,
-                playing: self.playing()?,
-            })),
-        }
+        Ok(Asked::Listing(Request {
+            parameters: self.parameters.ok_or(ArgumentFault::NoArguments)?,
+            start: self.start.ok_or(ArgumentFault::NoStart)?,
+            page: self.page.ok_or(ArgumentFault::NoPage)?,
+            row: self.row,
+            words: self.words,
+            cursor: self.cursor,
+            playing: self.playing()?,
+        }))
     }
 
     // One frame where a bus stands alone.

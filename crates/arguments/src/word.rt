@@ -19,34 +19,24 @@ pub enum Word {
 fn other(text: &[u8]) -> Word
     ensures { result ≡ other_word text.now }
 {
-    if !text.is_empty() && text[0] == b'-' {
-        return Word::UnknownOption;
+    match text {
+        [b'-', ..] => Word::UnknownOption,
+        _ => Word::Operand,
     }
-    Word::Operand
 }
 
 impl Word {
     pub fn read(text: &str) -> Word
         ensures { result ≡ word_of text.now }
     {
-        if text == "--help" {
-            return Word::Help;
+        match text {
+            "--help" => Word::Help,
+            "--row" => Word::Row,
+            "--words" => Word::Words,
+            "--bus" => Word::Bus,
+            "--frames" => Word::Frames,
+            "--cursor" => Word::Cursor,
+            _ => other(text.as_bytes()),
         }
-        if text == "--row" {
-            return Word::Row;
-        }
-        if text == "--words" {
-            return Word::Words;
-        }
-        if text == "--bus" {
-            return Word::Bus;
-        }
-        if text == "--frames" {
-            return Word::Frames;
-        }
-        if text == "--cursor" {
-            return Word::Cursor;
-        }
-        other(text.as_bytes())
     }
 }

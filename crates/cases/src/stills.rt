@@ -4,6 +4,7 @@ use rows::burst::BurstSize;
 use rows::reader::PageReader;
 use std::test::Fail;
 use video::composition::Composition;
+use video::parameters::ResetParameters;
 
 // A word of the still of a row, by line and clock, of a composition whose lines have at most 40 clocks.
 fn word(
@@ -14,15 +15,15 @@ fn word(
     at: (u8, u8, u8),
 ) -> Result<u32, Refusal> {
     let (row, line, clock) = at;
-    let composition = Composition::from_parameters(
-        parameters[0],
-        parameters[1],
-        parameters[2],
-        parameters[3],
-    )?;
+    let composition = Composition::try_from(ResetParameters {
+        first: parameters[0],
+        second: parameters[1],
+        third: parameters[2],
+        fourth: parameters[3],
+    })?;
     let mut words = [0u32; 640];
     PageReader::new(composition, BurstSize::One, page).still(row, cursor, blink, &mut words)?;
-    let width = (composition.columns + composition.retrace) as usize;
+    let width = usize::from(composition.width());
     Ok(
         words
             .get(line as usize * width + clock as usize)
@@ -130,7 +131,12 @@ fn each_cursor_by_the_blink_count(rt: HostRuntime) {
 
 #[test]
 fn a_page_one_byte_short_and_a_buffer_one_word_short(rt: HostRuntime) -> Result<(), Fail> {
-    let composition = Composition::from_parameters(0x01, 0x00, 0x00, 0x40)?;
+    let composition = Composition::try_from(ResetParameters {
+        first: 0x01,
+        second: 0x00,
+        third: 0x00,
+        fourth: 0x40,
+    })?;
     let page = [0x41, 0x42];
     let mut words = [7u32; 4];
     let short = PageReader::new(composition, BurstSize::One, &page[0..1]);

@@ -3,6 +3,7 @@ use refusal::Refusal;
 use rows::burst::BurstSize;
 use rows::reader::PageReader;
 use video::composition::Composition;
+use video::parameters::ResetParameters;
 
 // The place and the number of bytes of a row's window.
 fn window(
@@ -12,7 +13,12 @@ fn window(
     page: &[u8],
     row: u8,
 ) -> Result<(usize, usize), Refusal> {
-    let composition = Composition::from_parameters(columns, 0x03, 0x00, fourth)?;
+    let composition = Composition::try_from(ResetParameters {
+        first: columns,
+        second: 0x03,
+        third: 0x00,
+        fourth,
+    })?;
     let window = PageReader::new(composition, burst, page).window(row)?;
     Ok((window.place, window.bytes.len()))
 }

@@ -1,45 +1,48 @@
 -- Clocks in which nothing begins and no byte is asked for.
-use Rattle.std.proofs.Common.{◌≡◌, ℕ, zero, suc, ◌+◌, ◌-◌, ◌*◌, ◌<◌, ◌≤◌, Bool, true, false, not, ◌&&◌, leb, ◌⊎◌, List, [], ◌∷◌, ◌++◌, Option, sym, refl, ap, ◌∙◌, inl, inr, ⊎_elim, append_assoc, append-nil, arith}
+use Rattle.std.proofs.Common.{◌≡◌, ℕ, zero, suc, ◌+◌, ◌-◌, ◌*◌, ◌<◌, ◌≤◌, Bool, true, false, not, ◌&&◌, leb, ◌⊎◌, List, [], ◌∷◌, ◌++◌, Option, sym, refl, ap, ◌∙◌, inl, inr, ⊎_elim, append_assoc, arith}
+use Rattle.std.specs.Prelude.{slice_index}
 use Rattle.std.proofs.lemmas.Bool.{cases_lt}
 use Rattle.std.proofs.lemmas.Bool.Decides.{nat_tests}
+use Rattle.std.specs.Int.{from_bool}
 use Rattle.video.specs.Composition.{Shape, line_count}
 use Rattle.video.specs.Picture.{bit, dark_word, cell_word, look}
 use Rattle.video.proofs.Looks.{word_by_look}
 use Rattle.rows.specs.Buffer.{Shown, column_cell}
+use Rattle.rows.specs.Model.{shown_of}
 use Rattle.rows.specs.Page.{cursor_in}
 use Rattle.frame.specs.declared.call.Answer.{Answer}
 use Rattle.frame.specs.declared.call.Answer.TheVariants.{Word}
 use Rattle.frame.specs.Ports.{Core}
 use Rattle.frame.specs.Machine.{hrtc, vrtc, lit, pictured}
+use Rattle.console.specs.declared.raster.Raster.{Raster}
+use Rattle.console.specs.Raster.{AtHand}
 use Rattle.console.specs.Idle.{idled, idle_words, looked, repeated}
 
--- one word more of those still to come
-less_one : (n i : ℕ) → i < n → n - i ≡ suc (n - (i + 1))
-less_one n i h = omega arith
+-- a flag as a number
+pub bit_is : (b : Bool) → from_bool b ≡ bit b
+bit_is true = refl
+bit_is false = refl
 
-none_left : (n i : ℕ) → n ≤ i → n - i ≡ 0
-none_left n i h = omega arith
+-- one word more
+pub repeated_more : (w n : ℕ) (out : List Answer) → (out ++ repeated w n) ++ Word w ∷ [] ≡ out ++ repeated w (n + 1)
+repeated_more w n out =
+    let e : suc n ≡ n + 1 = omega arith in
+    append_assoc out (repeated w n) (Word w ∷ []) ∙ ap (λ (l : List Answer). out ++ l) (more n ∙ ap (repeated w) e)
+  where
+    more : (n : ℕ) → repeated w n ++ Word w ∷ [] ≡ repeated w (suc n)
+    more zero = refl
+    more (suc n) = ap (λ (l : List Answer). Word w ∷ l) (more n)
 
-moved_on : (out : List Answer) (x : Answer) (xs ys whole : List Answer) → whole ≡ out ++ ys → ys ≡ x ∷ xs → whole ≡ (out ++ x ∷ []) ++ xs
-moved_on out x xs ys whole e f = e ∙ ap (λ (l : List Answer). out ++ l) f ∙ sym (append_assoc out (x ∷ []) xs)
-
-pub repeated_more : (w n i : ℕ) (out out₂ whole : List Answer) → i < n → whole ≡ out ++ repeated w (n - i) → out₂ ≡ out ++ Word w ∷ [] → whole ≡ out₂ ++ repeated w (n - (i + 1))
-repeated_more w n i out out₂ whole h e f =
-    moved_on out (Word w) (repeated w (n - (i + 1))) (repeated w (n - i)) whole e (ap (repeated w) (less_one n i h)) ∙ ap (λ (l : List Answer). l ++ repeated w (n - (i + 1))) (sym f)
-
-pub looked_more : (c : Shape) (line k : ℕ) (s : Shown) (base m p v : ℕ) (out out₂ whole : List Answer) → p < m → whole ≡ out ++ looked c line k s base (m - p) p → v ≡ look c line k (column_cell s p) + base
-    → out₂ ≡ out ++ Word v ∷ [] → whole ≡ out₂ ++ looked c line k s base (m - (p + 1)) (p + 1)
-looked_more c line k s base m p v out out₂ whole h e f g =
-    moved_on out (Word v) (looked c line k s base (m - (p + 1)) (p + 1)) (looked c line k s base (m - p) p) whole e
-    (ap (λ (j : ℕ). looked c line k s base j p) (less_one m p h) ∙ ap (λ (x : ℕ). Word x ∷ looked c line k s base (m - (p + 1)) (p + 1)) (sym f))
-    ∙ ap (λ (l : List Answer). l ++ looked c line k s base (m - (p + 1)) (p + 1)) (sym g)
-
--- and none is left
-pub repeated_done : (w n i : ℕ) (out whole : List Answer) → n ≤ i → whole ≡ out ++ repeated w (n - i) → out ≡ whole
-repeated_done w n i out whole h e = sym (e ∙ ap (λ (k : ℕ). out ++ repeated w k) (none_left n i h) ∙ append-nil out)
-
-pub looked_done : (c : Shape) (line k : ℕ) (s : Shown) (base m p : ℕ) (out whole : List Answer) → m ≤ p → whole ≡ out ++ looked c line k s base (m - p) p → out ≡ whole
-looked_done c line k s base m p out whole h e = sym (e ∙ ap (λ (j : ℕ). out ++ looked c line k s base j p) (none_left m p h) ∙ append-nil out)
+pub looked_more : (c : Shape) (line k : ℕ) (s : Shown) (base first p v : ℕ) (out : List Answer) → first ≤ p → v ≡ look c line k (column_cell s p) + base
+    → (out ++ looked c line k s base (p - first) first) ++ Word v ∷ [] ≡ out ++ looked c line k s base (p + 1 - first) first
+looked_more c line k s base first p v out h e =
+    let n : suc (p - first) ≡ p + 1 - first = omega arith in
+    append_assoc out (looked c line k s base (p - first) first) (Word v ∷ [])
+    ∙ ap (λ (l : List Answer). out ++ l) (more (p - first) first (omega arith) ∙ ap (λ (n : ℕ). looked c line k s base n first) n)
+  where
+    more : (n q : ℕ) → q + n ≡ p → looked c line k s base n q ++ Word v ∷ [] ≡ looked c line k s base (suc n) q
+    more zero q z = let z₂ : q ≡ p = omega arith in rw (z₂, e) refl
+    more (suc n) q z = ap (λ (l : List Answer). Word (look c line k (column_cell s q) + base) ∷ l) (more n (q + 1) (omega arith))
 
 -- the words of a row that is drawn, where no cursor stands
 pub lit_words : (c : Shape) (q : Option (ℕ × ℕ)) (irq : Bool) (n : ℕ) (k : Core) → k.armed ≡ true → k.dark ≡ false → vrtc c k ≡ false → k.column + n ≤ c.h
@@ -55,12 +58,7 @@ lit_words c q irq (suc n) k a d v h away =
     ∙ ap (λ (l : List Answer). Word (pictured c q k + 0x800000 * bit irq) ∷ l) (lit_words c q irq n (idled 1 k) a d v (omega arith) (λ x l u. away x (omega arith) (omega arith)))
 
 unlit : (a d v h : Bool) → ((a && (not d && not v)) ≡ false) ⊎ (h ≡ true) → (a && (not d && (not v && not h))) ≡ false
-unlit true true v h p = refl
-unlit true false true h p = refl
-unlit true false false true p = refl
-unlit true false false false (inl p) = p
-unlit true false false false (inr p) = sym p
-unlit false d v h p = refl
+unlit a d v h p = grind (arith, nat_tests)
 
 -- the words of clocks that are dark, all in retrace or all before it
 pub dark_words : (c : Shape) (q : Option (ℕ × ℕ)) (irq : Bool) (h : Bool) (n : ℕ) (k : Core) → ((k.armed && (not k.dark && not (vrtc c k))) ≡ false) ⊎ (h ≡ true)
@@ -73,22 +71,12 @@ dark_words c q irq h (suc n) k u side =
     ap (λ (x : ℕ). Word (x + 0x800000 * bit irq) ∷ repeated (dark_word (line_count c k.line) h (vrtc c k) + 0x800000 * bit irq) n) (sym p)
     ∙ ap (λ (l : List Answer). Word (pictured c q k + 0x800000 * bit irq) ∷ l) (dark_words c q irq h n (idled 1 k) u (λ x l b. side x (omega arith) (omega arith)))
 
-never : false ≡ true → ⊥
-never e = let z : ◌≡◌ {A = ℕ} 0 1 = cc in omega arith
-
 lit_parts : (a d v h : Bool) → (a && (not d && (not v && not h))) ≡ true → (a ≡ true) × (d ≡ false) × (v ≡ false) × (h ≡ false)
-lit_parts true true v h p = absurd (never p)
-lit_parts true false true h p = absurd (never p)
-lit_parts true false false true p = absurd (never p)
-lit_parts true false false false p = (refl, refl, refl, refl)
-lit_parts false d v h p = absurd (never p)
+lit_parts a d v h p = (grind (arith, nat_tests), grind (arith, nat_tests), grind (arith, nat_tests), grind (arith, nat_tests))
 
 unlit_parts : (a d v h : Bool) → (a && (not d && (not v && not h))) ≡ false → ((a && (not d && not v)) ≡ false) ⊎ (h ≡ true)
 unlit_parts a d v true p = inr refl
-unlit_parts true true v false p = inl refl
-unlit_parts true false true false p = inl refl
-unlit_parts true false false false p = inl p
-unlit_parts false d v false p = inl refl
+unlit_parts a d v false p = inl (grind (arith, nat_tests))
 
 -- what is put out where the clocks are lit, and where they are dark
 pub put_lit : (c : Shape) (q : Option (ℕ × ℕ)) (irq : Bool) (n : ℕ) (k : Core) (count v : ℕ) (out out₂ : List Answer) → lit c k ≡ true

@@ -1,21 +1,20 @@
 -- The parts of a clock, put together from what the raster's functions ensure.
-use Rattle.std.proofs.Common.{◌≡◌, ℕ, suc, Bool, true, false, cond, ◌&&◌, ◌||◌, eqb, Some, None, Option, sym, refl, ap, ◌∙◌, ⊎_elim, arith}
+use Rattle.std.proofs.Common.{◌≡◌, ℕ, suc, Bool, true, false, cond, ◌&&◌, eqb, Some, None, Option, sym, refl, ap, ◌∙◌, ⊎_elim}
 use Rattle.std.proofs.lemmas.Bool.{cases_Bool, eqb-true}
+use Rattle.std.proofs.lemmas.Option.{none-some}
+use Rattle.std.proofs.Math.Bool.{or-false}
 use Rattle.video.specs.Composition.{Shape}
-use Rattle.rows.specs.Buffer.{Buffer, full, eat, took}
+use Rattle.rows.specs.Buffer.{Buffer, full, eat}
 use Rattle.source.specs.Meaning.{Meaning, answer, clocked}
 use Rattle.frame.specs.Ports.{Core, State}
 use Rattle.frame.specs.Timing.{pause}
 use Rattle.frame.specs.Machine.{frame_start, row_start, underrun, prepared, begins, wants, word, fed, turn, moved, ready_core, ready_source, fed_core, next_core, next_flags, clock_state, clock_source, clock_word}
+use Rattle.frame.proofs.Filling.{taken_eat}
 use Rattle.console.specs.Steps.{with, du_if, interrupted, frame_opened, row_opened, readied, stored}
-
-taken_eat : (f : Bool) (n : ℕ) (x : Buffer) (a : ℕ) → (eat f n x a).take.taken ≡ suc x.take.taken
-unfolding eat took
-taken_eat f n x a = refl
 
 -- a full row is not fed
 not_full : (b : Bool) (came : Option ℕ) (x : ℕ) → (b ≡ true → came ≡ None) → came ≡ Some x → b ≡ false
-not_full true came x h e = absurd (let w : ◌≡◌ {A = Option ℕ} (Some x) None = sym e ∙ h refl in let z : ◌≡◌ {A = ℕ} 0 1 = cc in omega arith)
+not_full true came x h e = absurd (none-some x (sym (h refl) ∙ e))
 not_full false came x h e = refl
 
 pub fed_some : (c : Shape) (k : Core) (came : Option ℕ) (x gap : ℕ) (f : Buffer) → (full k.fill.take ≡ true → came ≡ None) → came ≡ Some x
@@ -41,10 +40,6 @@ fed_some c k came x gap f h e p q =
     q ∙ ap (λ (y : Buffer). pause k.bursts y.take.taken) p₂ ∙ ap (pause k.bursts) (taken_eat c.f k.bursts.n k.fill x) in
     rw (e, p₂, q₂) refl
 
-or_false : (a : Bool) → (a || false) ≡ a
-or_false true = refl
-or_false false = refl
-
 -- a row time begins, and the row is late or not
 pub row_joined : (c : Shape) (s : State) (k : Core) (late : Bool) → late ≡ underrun s.core
     → k ≡ prepared c s.control.ve s.control.bursts row_start s.core → with s k (du_if late s.flags) ≡ row_opened c s
@@ -58,7 +53,7 @@ frame_begins c s s₁ s₂ m m₂ e h z p q =
     let h₂ : (eqb s.core.line 0 && eqb s.core.column 0) ≡ true = ap (λ (x : State). eqb x.core.line 0 && eqb x.core.column 0) (sym e) ∙ h in
     let z₂ : s.core.row ≡ 0 = ap (λ (x : State). x.core.row) (sym e) ∙ z in
     let v : s₁.control.ve ≡ s.control.ve = ap (λ (x : State). x.control.ve) e in
-    (p ∙ ap (frame_opened c) e ∙ (rw (h₂, z₂, or_false) refl), q ∙ (rw (v, h₂, z₂) refl))
+    (p ∙ ap (frame_opened c) e ∙ (rw (h₂, z₂, or-false) refl), q ∙ (rw (v, h₂, z₂) refl))
 
 pub row_begins : (c : Shape) (s s₁ s₂ : State) (m : Meaning) → s₁ ≡ interrupted c s → (eqb s₁.core.line 0 && eqb s₁.core.column 0) ≡ true → (s₁.core.row ≡ 0 → ⊥)
     → s₂ ≡ row_opened c s₁ → (s₂ ≡ readied c s) × (m ≡ ready_source s m)
@@ -74,17 +69,7 @@ pub none_begins : (c : Shape) (s s₁ : State) (m : Meaning) → s₁ ≡ interr
 unfolding ready_core ready_source
 none_begins c s s₁ m e h =
     let h₂ : (eqb s.core.line 0 && eqb s.core.column 0) ≡ false = ap (λ (x : State). eqb x.core.line 0 && eqb x.core.column 0) (sym e) ∙ h in
-    (e ∙ (rw (h₂, or_false) refl), rw h₂ refl)
-
--- a byte comes only where one is wanted
-pub unwanted : (k : Core) (m : Meaning) (came : Option ℕ) (w : Bool) → w ≡ wants k → came ≡ answer m w → full k.fill.take ≡ true → came ≡ None
-unwanted k m came w e p h =
-    let none : wants k ≡ false =
-    ⊎_elim
-    (λ (a : k.armed ≡ true). ⊎_elim (λ (d : k.dark ≡ true). rw (a, d) refl) (λ (d : k.dark ≡ false). rw (a, d, h) refl) (cases_Bool k.dark))
-    (λ (a : k.armed ≡ false). rw a refl)
-    (cases_Bool k.armed) in
-    p ∙ (rw (e, none) refl)
+    (e ∙ (rw (h₂, or-false) refl), rw h₂ refl)
 
 -- a whole clock
 pub record Clocked (c : Shape) (s : State) (m : Meaning) (s₂ : State) (m₂ : Meaning) (w : ℕ) : Type 0 where

@@ -1,18 +1,18 @@
 -- What a loop over calls keeps, and the law for calls over one source.
-use Rattle.std.proofs.Common.{◌≡◌, ℕ, zero, suc, ◌+◌, ◌<◌, ◌≤◌, List, [], ◌∷◌, ◌++◌, length, get_or, drop, Some, None, Ok, Err, Option, sym, refl, ap, ◌∙◌, subst, append_assoc, append-nil, add-one, arith, drop-cons}
+use Rattle.std.proofs.Common.{◌≡◌, ℕ, List, [], ◌∷◌, ◌++◌, length, drop, Some, None, Option, sym, refl, ap, ◌∙◌, subst, append_assoc, append-nil, arith}
+use Rattle.std.proofs.Math.Seq.{drop-append_seam}
 use Rattle.refusal.specs.declared.Refusal.{Refusal}
 use Rattle.source.specs.Meaning.{Meaning}
 use Rattle.video.specs.Composition.{Shape}
 use Rattle.frame.specs.declared.call.Call.{Call}
 use Rattle.frame.specs.declared.call.Answer.{Answer}
-use Rattle.frame.specs.declared.call.Answer.TheVariants.{Word, Refused}
 use Rattle.frame.specs.Ports.{State, new}
-use Rattle.frame.specs.History.{Moment, word_by, done, stroke_answer, call_state, call_source, call_answer, after, answers, over, source_after, words}
+use Rattle.frame.specs.History.{Moment, word_by, done, told, worded, stroke_answer, call_state, call_source, call_answer, after, answers, over, source_after, words}
 use Rattle.frame.specs.Law.{Ready, Quiet, Found, clocks, Law}
 use Rattle.frame.proofs.Lawful.{frame_law}
 use Rattle.frame.proofs.Threads.{found_over}
 use Rattle.console.specs.Answers.{answer, clock_answer, stroke_refusal}
-use Rattle.console.specs.Playing.{told, Played, On, Lawful}
+use Rattle.console.specs.Playing.{Played, On, Lawful}
 
 -- a refusal or none, as the calls and as the rules answer it
 pub told_is : (o : Option Refusal) → told (answer o) ≡ done o
@@ -23,19 +23,10 @@ pub told_stroke : (o : Option Shape) → told (answer (stroke_refusal o)) ≡ st
 told_stroke None = refl
 told_stroke (Some c) = refl
 
--- a call by what it was seen to be
-pub called : (x y : Call) (s s₂ : State) (m m₂ : Meaning) (r : Answer) → x ≡ y → r ≡ call_answer y s → s₂ ≡ call_state y s m → m₂ ≡ call_source y s m
-    → (r ≡ call_answer x s) × (s₂ ≡ call_state x s m) × (m₂ ≡ call_source x s m)
-called x y s s₂ m m₂ r e a b d = (a ∙ ap (λ (z : Call). call_answer z s) (sym e), b ∙ ap (λ (z : Call). call_state z s m) (sym e), d ∙ ap (λ (z : Call). call_source z s m) (sym e))
-
 -- a clock answers its word or its refusal
-pub word_told : (o : Option Shape) (s : State) (w : ℕ) → Ok w ≡ clock_answer o s → Word w ≡ word_by o s
-word_told None s w e = absurd (let z : ◌≡◌ {A = ℕ} 0 1 = cc in omega arith)
-word_told (Some c) s w e = cc
-
-pub refusal_told : (o : Option Shape) (s : State) (x : Refusal) → Err x ≡ clock_answer o s → Refused x ≡ word_by o s
-refusal_told None s x e = cc
-refusal_told (Some c) s x e = absurd (let z : ◌≡◌ {A = ℕ} 0 1 = cc in omega arith)
+pub worded_is : (o : Option Shape) (s : State) → worded (clock_answer o s) ≡ word_by o s
+worded_is None s = refl
+worded_is (Some c) s = refl
 
 pub after_more : (x : Call) (cs : List Call) (s : State) (m : Meaning) → after (over (x ∷ cs) s m) s ≡ after (over cs (call_state x s m) (call_source x s m)) (call_state x s m)
 unfolding after over
@@ -66,31 +57,20 @@ on_more xs x cs s s₂ m m₂ out out₂ cs₀ s₀ m₀ out₀ on e es em eo =
 
 pub on_end :
     (xs : List Call) (s : State) (m : Meaning) (out : List Answer) (cs₀ : List Call) (s₀ : State) (m₀ : Meaning) (out₀ : List Answer)
-    → xs ≡ [] → On xs s m out cs₀ s₀ m₀ out₀ → Played s₀ m₀ cs₀ out₀ s m out
+    → length xs ≡ 0 → On xs s m out cs₀ s₀ m₀ out₀ → Played s₀ m₀ cs₀ out₀ s m out
 unfolding after over source_after answers
-on_end xs s m out cs₀ s₀ m₀ out₀ e on =
-    let on₂ = subst (λ (ys : List Call). On ys s m out cs₀ s₀ m₀ out₀) e on in
-    record { state = on₂.state; source = on₂.source; answers_are = sym (append-nil out) ∙ on₂.all }
+on_end [] s m out cs₀ s₀ m₀ out₀ e on = record { state = on.state; source = on.source; answers_are = sym (append-nil out) ∙ on.all }
+on_end (x ∷ xs) s m out cs₀ s₀ m₀ out₀ e on = absurd (omega arith)
 
-pub on_through :
-    (xs : List Call) (s₂ : State) (m₂ : Meaning) (out₂ : List Answer) (ys zs : List Call) (s : State) (m : Meaning) (out : List Answer) (cs₀ : List Call) (s₀ : State) (m₀ : Meaning) (out₀ : List Answer)
-    → On zs s m out cs₀ s₀ m₀ out₀ → ys ≡ zs → On xs s₂ m₂ out₂ ys s m out → On xs s₂ m₂ out₂ cs₀ s₀ m₀ out₀
-on_through xs s₂ m₂ out₂ ys zs s m out cs₀ s₀ m₀ out₀ a e b =
-    let b₂ = subst (λ (l : List Call). On xs s₂ m₂ out₂ l s m out) e b in
-    record { state = b₂.state ∙ a.state; source = b₂.source ∙ a.source; all = b₂.all ∙ a.all }
-
-pub next_call : (l : List Call) (i : ℕ) (d : Call) → i < length l → drop i l ≡ get_or l i d ∷ drop (i + 1) l
-next_call l i d h = rw (add-one, drop-cons l i d) refl
-
-pub no_call : (l : List Call) (i : ℕ) → length l ≤ i → drop i l ≡ []
-no_call [] zero h = refl
-no_call [] (suc i) h = refl
-no_call (x ∷ xs) zero h = absurd (omega arith)
-no_call (x ∷ xs) (suc i) h = no_call xs i (omega arith)
-
-drop_behind : (xs ys : List Answer) → drop (length xs) (xs ++ ys) ≡ ys
-drop_behind [] ys = refl
-drop_behind (x ∷ xs) ys = drop_behind xs ys
+-- none of the calls that are left were played at once: one by itself
+pub on_one :
+    (n : ℕ) (xs : List Call) (x : Call) (cs : List Call) (s s₁ s₂ : State) (m m₁ m₂ : Meaning) (out out₁ out₂ : List Answer)
+    (cs₀ : List Call) (s₀ : State) (m₀ : Meaning) (out₀ : List Answer)
+    → n ≡ 0 → On (drop n xs) s₁ m₁ out₁ xs s m out → On xs s m out cs₀ s₀ m₀ out₀ → xs ≡ x ∷ cs
+    → s₂ ≡ call_state x s₁ m₁ → m₂ ≡ call_source x s₁ m₁ → out₂ ≡ out₁ ++ call_answer x s₁ ∷ [] → On cs s₂ m₂ out₂ cs₀ s₀ m₀ out₀
+on_one n xs x cs s s₁ s₂ m m₁ m₂ out out₁ out₂ cs₀ s₀ m₀ out₀ z a b e es em eo =
+    on_more (drop n xs) x cs s₁ s₂ m₁ m₂ out₁ out₂ cs₀ s₀ m₀ out₀
+    (record { state = a.state ∙ b.state; source = a.source ∙ b.source; all = a.all ∙ b.all }) (ap (λ (k : ℕ). drop k xs) z ∙ e) es em eo
 
 -- histories one behind another
 after_append : (es xs : List Moment) (s : State) → after (es ++ xs) s ≡ after xs (after es s)
@@ -105,7 +85,7 @@ answers_append (e ∷ es) xs s = ap (λ (l : List Answer). call_answer e.call s 
 
 pub lawful : (s : State) (m : Meaning) (cs : List Call) (out : List Answer) (e : State) (m₂ : Meaning) (out₂ : List Answer) → Played s m cs out e m₂ out₂ → Lawful s m cs out e out₂
 lawful s m cs out e m₂ out₂ p =
-    let tail : drop (length out) out₂ ≡ answers (over cs s m) s = ap (drop (length out)) p.answers_are ∙ drop_behind out (answers (over cs s m) s) in
+    let tail : drop (length out) out₂ ≡ answers (over cs s m) s = ap (drop (length out)) p.answers_are ∙ drop-append_seam out (answers (over cs s m) s) in
     record {
       alone = λ h c is r q room.
           let r₂ : Ready c (after h new) = subst (Ready c) is r in

@@ -2,6 +2,7 @@
 use Rattle.std.proofs.Common.{◌≡◌, ℕ, zero, suc, ◌+◌, ◌-◌, ◌*◌, ◌≤◌, Bool, true, false, not, ◌&&◌, ◌||◌, eqb, ltb, List, [], ◌∷◌, ◌++◌, drop, Some, None, Option, sym, refl, ap, ◌∙◌, ⊎_elim, append_assoc, add-one, arith}
 use Rattle.std.proofs.lemmas.Bool.{cases_Bool}
 use Rattle.std.proofs.lemmas.Bool.Decides.{nat_tests}
+use Rattle.std.proofs.Math.Bool.{or-false}
 use Rattle.source.specs.Meaning.{Meaning, answer, clocked}
 use Rattle.source.specs.Runs.{waited}
 use Rattle.source.proofs.Draining.{wait_none, wait_first}
@@ -25,14 +26,8 @@ use Rattle.console.proofs.Plays.{after_more, source_more, answers_more}
 abbrev pub idle_state : ℕ → State → State
 idle_state n s = with s (idled n s.core) s.flags
 
-or_false : (a : Bool) → (a || false) ≡ a
-or_false true = refl
-or_false false = refl
-
 and_false : (a b : Bool) → (a && (b && false)) ≡ false
-and_false true true = refl
-and_false true false = refl
-and_false false b = refl
+and_false a b = grind (arith, nat_tests)
 
 not_both : (n : ℕ) → (eqb n 16 && eqb n 17) ≡ false
 not_both n = grind (arith, nat_tests)
@@ -63,7 +58,7 @@ next_is c s m i = rw (unfed c s m i, i.inside) (simp add-one)
 
 kept : (f : Flags) (a b d : Bool) → a ≡ false → b ≡ false → d ≡ false
     → ◌≡◌ {A = Flags} (record { ir = f.ir || a; lp = f.lp; ic = f.ic; du = f.du || b; fo = f.fo || d }) f
-kept f a b d e g h = rw (e, g, h, or_false f.ir, or_false f.du, or_false f.fo) refl
+kept f a b d e g h = rw (e, g, h, or-false f.ir, or-false f.du, or-false f.fo) refl
 
 none_requested : (c : Shape) (s : State) → Still c s → requests c s ≡ false
 none_requested c s i = rw (i.begun, and_false s.control.ie (eqb s.core.row c.r)) refl
@@ -85,7 +80,7 @@ source_is c s m i = rw (readied c s i, source_readied c s m i, i.unasked) refl
 
 word_is : (c : Shape) (s : State) → Still c s → clock_word c s ≡ pictured c s.cursor s.core + 0x800000 * bit s.flags.ir
 unfolding clock_word
-word_is c s i = rw (readied c s i, none_requested c s i, or_false s.flags.ir, i.unasked) (omega arith)
+word_is c s i = rw (readied c s i, none_requested c s i, or-false s.flags.ir, i.unasked) (omega arith)
 
 -- one such clock, as a call
 record Idled (s : State) (m : Meaning) (w : ℕ) : Type 0 where

@@ -3,12 +3,15 @@ use Rattle.std.specs.Prelude.{◌≡◌, ℕ, zero, suc, ◌+◌, ◌-◌, ◌*�
 use Rattle.video.specs.Composition.{Shape, width}
 use Rattle.video.specs.Picture.{bit, look}
 use Rattle.rows.specs.Buffer.{Shown, column_cell}
+use Rattle.rows.specs.Page.{cursor_in}
 use Rattle.frame.specs.declared.call.Call.{Call}
 use Rattle.frame.specs.declared.call.Call.TheVariants.{Command, Clock}
 use Rattle.frame.specs.declared.call.Answer.{Answer}
 use Rattle.frame.specs.declared.call.Answer.TheVariants.{Word}
 use Rattle.frame.specs.Ports.{Core}
-use Rattle.frame.specs.Machine.{underrun, pictured}
+use Rattle.frame.specs.Machine.{underrun, lit, pictured}
+use Rattle.console.specs.declared.raster.Raster.{Raster}
+use Rattle.console.specs.Raster.{core_of, AtHand}
 
 -- the core n such clocks on: the burst space runs out, and the counters go on in their line
 abbrev pub idled : (n : ℕ) → Core → Core
@@ -31,6 +34,11 @@ pub record Idle (c : Shape) (k : Core) (n : ℕ) : Type 0 where
   pub begun : 0 < n → (k.line == 0 && k.column == 0) ≡ false
   pub inside : k.column + n < width c
   pub unasked : underrun k ≡ true → n ≤ k.gap
+
+-- they can be put out at once: dark, or columns whose looks are at hand, ahead of the cursor
+abbrev pub Drawable : Shape → Option (ℕ × ℕ) → Raster → (n : ℕ) → Type 0
+Drawable c q k n =
+    lit c (core_of k) ≡ true → 0 < n → AtHand c k × ((p : ℕ) → k.beam.column ≤ p → p < k.beam.column + n → cursor_in q k.beam.row p ≡ false)
 
 -- what n such clocks answer
 abbrev pub idle_words : Shape → Option (ℕ × ℕ) → (irq : Bool) → (n : ℕ) → Core → List Answer

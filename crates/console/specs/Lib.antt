@@ -4,5 +4,6 @@ pub mod Model
 pub mod Steps
 pub mod Answers
 pub mod Idle
+pub mod Room
 pub mod Playing
 pub mod Parts

@@ -1,25 +1,10 @@
 -- A console by its parts.
 use Rattle.std.specs.Prelude.{ℕ, ◌+◌, Bool, cond, ◌&&◌, Some, None, Option, nat_lt}
 use Rattle.video.specs.Composition.{Shape, allowed}
-use Rattle.frame.specs.Ports.{State, bursts_of}
+use Rattle.frame.specs.Ports.{State}
 use Rattle.console.specs.declared.state.Console.{Console}
-use Rattle.console.specs.declared.state.parts.Parts.{Parts}
 use Rattle.console.specs.Bounds.{first}
-use Rattle.console.specs.Raster.{core_of}
-use Rattle.console.specs.Model.{shape_in, state_of}
-
--- what parts stand for
-abbrev pub state_in : Parts → State
-state_in p =
-    record {
-      shape = shape_in p.composition;
-      control = record { ve = p.ve; ie = p.ie; bursts = bursts_of p.burst };
-      cursor = p.cursor;
-      pending = p.pending;
-      core = core_of p.raster;
-      flags = p.flags;
-      pen = p.pen;
-    }
+use Rattle.console.specs.Model.{state_of}
 
 -- the row times of a frame, the lines of a row time and the clocks of a line; 1 each without a composition
 abbrev pub limits : Option Shape → ℕ × ℕ × ℕ

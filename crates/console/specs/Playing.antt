@@ -1,19 +1,12 @@
 -- Calls played over one source, and the law of a frame for them.
-use Rattle.std.specs.Prelude.{◌≡◌, ℕ, ◌+◌, ◌*◌, ◌≤◌, Bool, List, [], ◌++◌, length, drop, Ok, Err, Result}
-use Rattle.refusal.specs.declared.Refusal.{Refusal}
+use Rattle.std.specs.Prelude.{◌≡◌, ℕ, ◌+◌, ◌*◌, ◌≤◌, Bool, List, [], ◌++◌, length, drop}
 use Rattle.source.specs.Meaning.{Meaning}
 use Rattle.video.specs.Composition.{Shape}
 use Rattle.frame.specs.declared.call.Call.{Call}
 use Rattle.frame.specs.declared.call.Answer.{Answer}
-use Rattle.frame.specs.declared.call.Answer.TheVariants.{Done, Refused}
 use Rattle.frame.specs.Ports.{State, new}
 use Rattle.frame.specs.History.{Moment, after, answers, over, source_after, words}
 use Rattle.frame.specs.Law.{Ready, Quiet, Found, clocks, Law}
-
--- a call that gives nothing but its effect
-abbrev pub told : Result (Unit {0}) Refusal → Answer
-told (Ok x) = Done
-told (Err e) = Refused e
 
 -- calls from s over m, whose answers came behind `out`: the console and the source after them, and every answer, are those of the rules
 pub record Played (s : State) (m : Meaning) (cs : List Call) (out : List Answer) (e : State) (m₂ : Meaning) (out₂ : List Answer) : Type 0 where

@@ -1,4 +1,3 @@
 mod Refused
-mod Performs
 mod Taken
 mod Over

@@ -7,11 +7,9 @@ use Rattle.frame.specs.declared.pending.Pending.{Pending}
 use Rattle.frame.specs.declared.pending.Pending.TheVariants.{Nothing, Reset1, Reset2, Reset3, Reset4, CursorColumn, CursorRow, PenColumn, PenRow}
 use Rattle.frame.specs.declared.call.Call.{Call}
 use Rattle.frame.specs.declared.call.Call.TheVariants.{Command, Parameter, Status, Read, Stroke, Clock}
-use Rattle.frame.specs.declared.call.Answer.{Answer}
-use Rattle.frame.specs.declared.call.Answer.TheVariants.{Done, Byte, Word, Refused}
+use Rattle.frame.specs.declared.call.Answer.TheVariants.{Refused}
 use Rattle.frame.specs.Ports.{State, is_command, refused_parameter, parameter_to}
 use Rattle.frame.specs.History.{call_state, call_answer, clocked_by, word_by, stroke_by, stroke_answer, done}
-use Rattle.ffi.specs.Calls.{refusal_of}
 
 tested : (t : Bool) (why e : Refusal) (s s₂ : State) → done (cond t None (Some why)) ≡ Refused e → cond t s₂ s ≡ s
 tested true why e s s₂ h = cc
@@ -44,9 +42,3 @@ refused_same Status s m e h = cc
 refused_same Read s m e h = cc
 refused_same Stroke s m e h = stroke s.shape s e h
 refused_same Clock s m e h = clock s.shape s m e h
-
-pub not_refused : (a : Answer) → ((e : Refusal) → a ≡ Refused e → ⊥) → refusal_of (Some a) ≡ 0
-not_refused Done h = refl
-not_refused (Byte b) h = refl
-not_refused (Word w) h = refl
-not_refused (Refused e) h = elim (h e refl) [ ]

@@ -1,7 +1,9 @@
 -- The byte that was offered is gone where the clock asked for one.
 use Rattle.std.proofs.Common.{◌≡◌, ℕ, Bool, true, false, ◌&&◌, is_some, Some, None, Option, refl, ap, ◌∙◌}
+use Rattle.std.specs.Int.{from_bool}
 use Rattle.source.specs.Meaning.{Meaning, clocked}
 use Rattle.video.specs.Composition.{Shape}
+use Rattle.video.specs.Picture.{bit}
 use Rattle.frame.specs.declared.call.Call.TheVariants.{Clock}
 use Rattle.frame.specs.Ports.{State}
 use Rattle.frame.specs.Machine.{Opening, within, frame_start, row_start, opening, begins, ready_source, ready_core, wants, clock_source}
@@ -41,3 +43,7 @@ pub gone_is : (o : Option ℕ) (x : Option State) → gone (left_by Clock (offer
 unfolding call_source
 gone_is o None = without o
 gone_is o (Some s) = by_clock s.shape s o
+
+pub byte_bit : (b : Bool) → from_bool b ≡ bit b
+byte_bit true = refl
+byte_bit false = refl

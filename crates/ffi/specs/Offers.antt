@@ -11,7 +11,7 @@ bytes_in (Some b) = b ∷ []
 
 -- a page of that byte, or of none, on a bus that is always free
 abbrev pub offer_of : Offered → Meaning
-offer_of o = record { page = bytes_in o.byte; rest = cond o.taken [] (bytes_in o.byte); free = always }
+offer_of o = record { page = bytes_in o.byte; rest = bytes_in o.left; free = always }
 
 abbrev pub offer : Option ℕ → Meaning
 offer o = filled (bytes_in o) always

@@ -13,7 +13,7 @@ use frame::call::{Answer, Call};
 use mirror::numbers::Mirror;
 use mirror::packing::{pack, unpack};
 
-// A byte, or why there is none.
+// A byte, or why there is none. C has no Result, so both stand side by side here and in Clocked.
 #[repr(C)]
 #[derive(Clone, Copy)]
 pub struct Said {
@@ -31,6 +31,7 @@ pub struct Clocked {
 }
 
 // The memory is written only where the call is not refused.
+#[tactic(auto, using(crate::proofs::Refused::refused_same))]
 fn perform(mirror: &mut Mirror, source: &mut Offered, call: Call) -> Option<Answer>
     ensures answer { result ≡ replied call (stands mirror.old) }
     ensures state { stands mirror.new ≡ called call (offer_of source.old) (stands mirror.old) }
@@ -39,13 +40,13 @@ fn perform(mirror: &mut Mirror, source: &mut Offered, call: Call) -> Option<Answ
 {
     let mut console = unpack(mirror)?;
     let answer = console.call(source, call);
-    match answer {
-        Answer::Refused(_) => {}
-        _ => *mirror = pack(&console),
+    if !matches!(answer, Answer::Refused(_)) {
+        *mirror = pack(&console);
     }
     Some(answer)
 }
 
+// C is answered in numbers: 254 where the memory holds no console, and 0 for no refusal, no byte and no word.
 fn refusal_number(answer: Option<Answer>) -> u8
     ensures { result ≡ refusal_of answer }
 {
@@ -74,21 +75,7 @@ fn word(answer: Option<Answer>) -> u32
     }
 }
 
-fn bit(b: bool) -> u8
-    ensures { result ≡ bit b }
-{
-    if b { 1 } else { 0 }
-}
-
-// A call that takes no byte from a source and answers nothing.
-fn tell(console: &mut Mirror, call: Call) -> u8
-    ensures { Kept call (offer None) console.old console.new result }
-{
-    let answer = perform(console, &mut Offered::new(None), call);
-    refusal_number(answer)
-}
-
-// A call that takes no byte from a source and answers a byte.
+// A call that takes no byte from a source.
 fn ask(console: &mut Mirror, call: Call) -> Said
     ensures kept { Kept call (offer None) console.old console.new result.refusal }
     ensures byte { result.byte ≡ byte_of (replied call (stands console.old)) }
@@ -100,13 +87,15 @@ fn ask(console: &mut Mirror, call: Call) -> Said
     }
 }
 
-fn offering(offers: u8, byte: u8) -> Option<u8>
-    ensures { result ≡ offered offers byte }
+// The same where no byte is the answer.
+fn tell(console: &mut Mirror, call: Call) -> u8
+    ensures { Kept call (offer None) console.old console.new result }
 {
-    if offers != 0 { Some(byte) } else { None }
+    ask(console, call).refusal
 }
 
 // One clock, at which a byte is offered or not.
+#[tactic(auto, using(crate::proofs::Over::clocks_same))]
 fn clock(console: &mut Mirror, byte: Option<u8>) -> Clocked
     ensures kept { Kept Clock (offer byte) console.old console.new result.refusal }
     ensures word { result.word ≡ word_of (replied Clock (stands console.old)) }
@@ -117,7 +106,7 @@ fn clock(console: &mut Mirror, byte: Option<u8>) -> Clocked
     let answer = perform(console, &mut source, Call::Clock);
     Clocked {
         word: word(answer),
-        taken: bit(source.gone()),
+        taken: u8::from(source.gone()),
         refusal: refusal_number(answer),
     }
 }
@@ -180,5 +169,5 @@ pub extern "C" fn welzour_clock(console: &mut Mirror, offers: u8, byte: u8) -> C
     ensures taken { result.taken ≡ bit (taken (offered offers byte) (stands console.old)) }
     ensures source { AsOver (offered offers byte) console.old console.new }
 {
-    clock(console, offering(offers, byte))
+    clock(console, (offers != 0).then_some(byte))
 }

@@ -7,24 +7,22 @@ use source::Source;
 #[derive(Drop)]
 pub(crate) struct Offered {
     byte: Option<u8>,
-    taken: bool,
+    // what of it has not been handed out
+    left: Option<u8>,
 }
 
 impl Offered {
     pub(crate) fn new(byte: Option<u8>) -> Offered
         ensures { offer_of result ≡ offer byte }
     {
-        Offered { byte, taken: false }
+        Offered { byte, left: byte }
     }
 
     // There was a byte, and it has been handed out.
     pub(crate) fn gone(&self) -> bool
         ensures { result ≡ gone (offer_of self.now) }
     {
-        match self.byte {
-            None => false,
-            Some(_) => self.taken,
-        }
+        self.byte.is_some() && self.left.is_none()
     }
 }
 
@@ -32,16 +30,10 @@ impl Source for Offered {
     ghost means = { offer_of };
 
     fn begin(&mut self) {
-        self.taken = false;
+        self.left = self.byte;
     }
 
     fn clock(&mut self, wanted: bool) -> Option<u8> {
-        let left = if self.taken { None } else { self.byte };
-        if wanted {
-            self.taken = true;
-            left
-        } else {
-            None
-        }
+        if wanted { self.left.take() } else { None }
     }
 }

@@ -1,39 +1,26 @@
 -- The lines of a frame's rows.
-use Rattle.std.proofs.Common.{◌≡◌, ℕ, suc, ◌+◌, ◌-◌, ◌*◌, cond, List, ◌++◌, Option, refl, ap, ◌∙◌, add-one}
-use Rattle.video.specs.Composition.{Shape}
-use Rattle.frame.specs.declared.call.Answer.{Answer}
-use Rattle.frame.specs.History.{words}
-use Rattle.layout.specs.Closing.{frame_total}
-use Rattle.layout.specs.Lines.{under, frame_heading, frame_figures, pictured}
-use Rattle.layout.specs.declared.fate.Fate.{Fate}
+use Rattle.std.proofs.Common.{◌≡◌, ℕ, zero, suc, ◌-◌, ◌<◌, List, ◌++◌, Option, refl, ap, ◌∙◌, arith}
+use Rattle.film.specs.declared.film.Film.{Film}
 use Rattle.film.specs.declared.log.Log.{Log}
-use Rattle.sheet.specs.Rasters.{row_clocks}
-use Rattle.film.specs.FrameRows.{row_answers, frame_margin, fate_in, with_frame_row, wanted, with_frame_rows}
-use Rattle.sheet.proofs.Rows.{behind_heading}
+use Rattle.frame.specs.Ports.{status_byte}
+use Rattle.console.specs.Model.{state_of}
+use Rattle.layout.specs.Closing.{frame_total}
+use Rattle.film.specs.FrameRows.{first_late, with_wanted_row, with_frame_rows, frame_listing}
 
-pub frame_row_listed : (c : Shape) (xs : List Answer) (j : ℕ) (fate : Fate) (o o₁ o₂ ws : List ℕ) (span due : ℕ) → span ≡ row_clocks c → due ≡ j * span - 1
-    → ws ≡ words (row_answers c j xs) → o₁ ≡ o ++ (under frame_heading o ++ frame_figures j fate due) → o₂ ≡ o₁ ++ pictured frame_margin c ws
-    → o₂ ≡ with_frame_row c xs j fate o
-frame_row_listed c xs j fate o o₁ o₂ ws span due e d w p q =
-    behind_heading o (under frame_heading o) (frame_figures j fate due) (pictured frame_margin c ws) p q
-    ∙ (ap (λ (n : ℕ). o ++ (under frame_heading o ++ (frame_figures j fate n ++ pictured frame_margin c ws))) (d ∙ ap (λ (n : ℕ). j * n - 1) e)
-    ∙ ap (λ (x : List ℕ). o ++ (under frame_heading o ++ (frame_figures j fate (j * row_clocks c - 1) ++ pictured frame_margin c x))) w)
-
-pub frame_rows_none : (c : Shape) (xs : List Answer) (g : Log) (late only : Option ℕ) (out : List ℕ) → out ≡ with_frame_rows c xs g late only out 0
+pub frame_rows_none : (f : Film) (g : Log) (late only : Option ℕ) (out : List ℕ) → out ≡ with_frame_rows f g late only out 0
 unfolding with_frame_rows
-frame_rows_none c xs g late only out = refl
+frame_rows_none f g late only out = refl
 
-pub frame_rows_more : (c : Shape) (xs : List Answer) (g : Log) (late only : Option ℕ) (out o o₂ : List ℕ) (i : ℕ) → o ≡ with_frame_rows c xs g late only out i
-    → o₂ ≡ cond (wanted only (i + 1)) (with_frame_row c xs (i + 1) (fate_in g late (i + 1)) o) o → o₂ ≡ with_frame_rows c xs g late only out (i + 1)
+-- the wanted of rows 1 to j, behind those above row j
+pub frame_rows_more : (f : Film) (g : Log) (late only : Option ℕ) (out o o₂ : List ℕ) (j : ℕ) → 0 < j → o ≡ with_frame_rows f g late only out (j - 1)
+    → o₂ ≡ with_wanted_row f g late only j o → o₂ ≡ with_frame_rows f g late only out j
 unfolding with_frame_rows
-frame_rows_more c xs g late only out o o₂ i e f =
-    let m : o₂ ≡ cond (wanted only (suc i)) (with_frame_row c xs (suc i) (fate_in g late (suc i)) o) o = simp add-one at f in
-    simp add-one (m ∙ ap (λ (x : List ℕ). cond (wanted only (suc i)) (with_frame_row c xs (suc i) (fate_in g late (suc i)) x) x) e)
+frame_rows_more f g late only out o o₂ zero h e n = absurd (omega arith)
+frame_rows_more f g late only out o o₂ (suc i) h e n =
+    let d : suc i - 1 ≡ i = omega arith in
+    n ∙ ap (with_wanted_row f g late only (suc i)) (e ∙ ap (with_frame_rows f g late only out) d)
 
-pub frame_closed : (c : Shape) (xs : List Answer) (g : Log) (late late₂ only : Option ℕ) (out o₁ o₂ : List ℕ) (n status status₂ played : ℕ) → late ≡ late₂ → status ≡ status₂
-    → o₁ ≡ with_frame_rows c xs g late only out n → o₂ ≡ o₁ ++ frame_total status played late
-    → o₂ ≡ with_frame_rows c xs g late₂ only out n ++ frame_total status₂ played late₂
-frame_closed c xs g late late₂ only out o₁ o₂ n status status₂ played l s e f =
-    f ∙ (ap (λ (x : List ℕ). x ++ frame_total status played late) e
-    ∙ (ap (λ (b : ℕ). with_frame_rows c xs g late only out n ++ frame_total b played late) s
-    ∙ ap (λ (o : Option ℕ). with_frame_rows c xs g o only out n ++ frame_total status₂ played o) l))
+pub frame_closed : (f : Film) (page : List ℕ) (g : Log) (late only : Option ℕ) (out o₁ o₂ : List ℕ) (status : ℕ) → late ≡ first_late f.screen page g
+    → status ≡ status_byte (state_of f.console) → o₁ ≡ with_frame_rows f g late only out f.screen.composition.rows
+    → o₂ ≡ o₁ ++ frame_total status f.played late → o₂ ≡ frame_listing f page g only out
+frame_closed f page g late only out o₁ o₂ status l s e h = h ∙ rw (e, l, s) refl

@@ -1,3 +1,4 @@
 mod Answered
 mod Lates
+mod First
 mod FrameLines

@@ -1,17 +1,29 @@
 -- What came in a frame, by row times.
-use Rattle.std.specs.Prelude.{ℕ, ◌+◌, ◌-◌, ◌/◌, ◌^◌, min, Bool, cond, ◌&&◌, replicate, ◌==◌, nat_lt, slice_index, slice_set}
+use Rattle.std.specs.Prelude.{ℕ, ◌+◌, ◌-◌, ◌/◌, ◌^◌, min, Bool, cond, ◌&&◌, replicate, ◌==◌, nat_lt, slice_index_or, slice_set}
 use Rattle.film.specs.declared.log.Log.{Log}
+use Rattle.film.specs.declared.log.RowTime.{RowTime}
+
+abbrev pub nothing : RowTime
+nothing = record { bytes = 0; last = 0 }
 
 abbrev pub empty_log : (span : ℕ) → Log
-empty_log n = record { span = n; clock = 0; bytes = replicate 64 0; lasts = replicate 64 0 }
+empty_log n = record { span = n; clock = 0; times = replicate 64 nothing }
 
 -- the row time of the coming clock
 abbrev pub time_of : Log → ℕ
 time_of g = cond (g.span == 0) 0 (g.clock / g.span)
 
+-- what came in a row time
+abbrev pub came_in : Log → (time : ℕ) → RowTime
+came_in g t = slice_index_or g.times t nothing
+
 -- numbers stop at the largest
 abbrev pub raised : ℕ → ℕ
 raised n = min (n + 1) (2 ^ 32 - 1)
+
+-- one byte more, which came in clock i
+abbrev pub with_byte : RowTime → (clock : ℕ) → RowTime
+with_byte t i = record { bytes = raised t.bytes; last = i }
 
 -- a byte came in this row time
 abbrev pub noted : Log → (came : Bool) → Bool
@@ -23,10 +35,9 @@ passed g came =
     record {
       span = g.span;
       clock = raised g.clock;
-      bytes = cond (noted g came) (slice_set g.bytes (time_of g) (raised (slice_index g.bytes (time_of g)))) g.bytes;
-      lasts = cond (noted g came) (slice_set g.lasts (time_of g) g.clock) g.lasts;
+      times = cond (noted g came) (slice_set g.times (time_of g) (with_byte (came_in g (time_of g)) g.clock)) g.times;
     }
 
 -- n clocks passed without a byte
 abbrev pub waited_log : (n : ℕ) → Log → Log
-waited_log n g = record { span = g.span; clock = min (g.clock + n) (2 ^ 32 - 1); bytes = g.bytes; lasts = g.lasts }
+waited_log n g = record { span = g.span; clock = min (g.clock + n) (2 ^ 32 - 1); times = g.times }

@@ -1,8 +1,27 @@
 // What came in a frame, by row times.
-ghost use Rattle.std.specs.Prelude.{◌≡◌, ℕ, ◌-◌, ◌≤◌, slice_index};
-ghost use Rattle.film.specs.Logs.{empty_log, time_of, passed, waited_log};
+ghost use Rattle.std.specs.Prelude.{◌≡◌, ◌-◌};
+ghost use Rattle.film.specs.Logs.{empty_log, with_byte, time_of, came_in, passed, waited_log};
 
 const MOST_ROWS: usize = 64;
+
+// The bytes that came in a row time, and the clock of the last of them.
+#[derive(Clone, Copy, Default)]
+pub struct RowTime {
+    pub bytes: u32,
+    pub last: u32,
+}
+
+impl RowTime {
+    // With one byte more, which came in this clock.
+    fn with(self, clock: u32) -> RowTime
+        ensures { result ≡ with_byte self clock }
+    {
+        RowTime {
+            bytes: self.bytes.saturating_add(1),
+            last: clock,
+        }
+    }
+}
 
 #[derive(Clone, Copy)]
 pub struct Log {
@@ -10,9 +29,7 @@ pub struct Log {
     span: u32,
     // the number of the coming clock in its frame
     clock: u32,
-    // the bytes that came in each row time, and the clock of the last of them
-    bytes: [u32; MOST_ROWS],
-    lasts: [u32; MOST_ROWS],
+    times: [RowTime; MOST_ROWS],
 }
 
 impl Log {
@@ -22,8 +39,7 @@ impl Log {
         Log {
             span,
             clock: 0,
-            bytes: [0; MOST_ROWS],
-            lasts: [0; MOST_ROWS],
+            times: [RowTime::default(); MOST_ROWS],
         }
     }
 
@@ -38,10 +54,7 @@ impl Log {
     fn time(&self) -> u32
         ensures { result ≡ time_of self.now }
     {
-        if self.span == 0 {
-            return 0;
-        }
-        self.clock / self.span
+        self.clock.checked_div(self.span).unwrap_or(0)
     }
 
     // A clock passes, with a byte or without.
@@ -51,9 +64,8 @@ impl Log {
         let time = self.time() as usize;
         let clock = self.clock;
         self.clock = clock.saturating_add(1);
-        if came & (time < MOST_ROWS) {
-            self.bytes[time] = self.bytes[time].saturating_add(1);
-            self.lasts[time] = clock;
+        if came && time < MOST_ROWS {
+            self.times[time] = self.times[time].with(clock);
         }
     }
 
@@ -64,19 +76,11 @@ impl Log {
         self.clock = self.clock.saturating_add(clocks);
     }
 
-    // The bytes that came for a row, in the row time before its own.
-    pub(crate) fn bytes(&self, row: u8) -> u32
-        requires { row ≤ 64 }
-        ensures { result ≡ slice_index self.now.bytes (row - 1) }
+    // What came for a row, in the row time before its own.
+    pub(crate) fn row(&self, row: u8) -> RowTime
+        ensures { result ≡ came_in self.now (row - 1) }
     {
-        self.bytes[row.saturating_sub(1) as usize]
-    }
-
-    // The clock of the last of them.
-    pub(crate) fn last(&self, row: u8) -> u32
-        requires { row ≤ 64 }
-        ensures { result ≡ slice_index self.now.lasts (row - 1) }
-    {
-        self.lasts[row.saturating_sub(1) as usize]
+        let time = row.saturating_sub(1) as usize;
+        self.times.get(time).copied().unwrap_or_default()
     }
 }

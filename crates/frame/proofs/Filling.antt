@@ -2,6 +2,7 @@
 use Rattle.std.proofs.Common.{◌≡◌, ℕ, zero, suc, ◌+◌, ◌-◌, ◌*◌, ◌<◌, ◌≤◌, Bool, true, false, not, ◌&&◌, ◌||◌, eqb, leb, ◌⊎◌, List, [], ◌∷◌, length, drop, Some, None, Option, sym, refl, ap, ◌∙◌, inl, inr, ⊎_elim, arith, length-drop, drop-drop}
 use Rattle.std.proofs.lemmas.Bool.{cases_lt, cases_Bool, le-leb, lt-leb}
 use Rattle.std.proofs.lemmas.Bool.Decides.{nat_tests}
+use Rattle.std.proofs.lemmas.Option.{none-some}
 use Rattle.source.specs.Meaning.{handed, left}
 use Rattle.video.specs.Composition.{Shape}
 use Rattle.rows.specs.Page.{blank, row}
@@ -27,7 +28,7 @@ pub record Filling (c : Shape) (b : Bursts) (page : List ℕ) (free : ℕ → Bo
   pub due : 0 < length rest → full fill.take ≡ false → takes free (total c) b (i * span c) fill.take.taken ≡ first_free free (total c) (t + gap)
   pub past : (j : ℕ) → j < fill.take.taken → takes free (total c) b (i * span c) j < t
 
-taken_eat : (f : Bool) (n : ℕ) (x : Buffer) (a : ℕ) → (eat f n x a).take.taken ≡ suc x.take.taken
+pub taken_eat : (f : Bool) (n : ℕ) (x : Buffer) (a : ℕ) → (eat f n x a).take.taken ≡ suc x.take.taken
 unfolding eat took
 taken_eat f n x a = refl
 
@@ -102,7 +103,7 @@ reads_up : (f : Bool) (n : ℕ) (x : Buffer) (xs : List ℕ) (r : Reading) → r
 reads_up f n x [] r e =
     ⊎_elim
     (λ (h : full x.take ≡ true). let w = sym (reads_full f n x [] h) ∙ e in let q : x.take.taken ≡ r.taken = cc in omega arith)
-    (λ (h : full x.take ≡ false). absurd (let w = sym (reads_none f n x h) ∙ e in let z : ◌≡◌ {A = ℕ} 0 1 = cc in omega arith))
+    (λ (h : full x.take ≡ false). absurd (none-some r (sym (reads_none f n x h) ∙ e)))
     (cases_Bool (full x.take))
 reads_up f n x (a ∷ xs) r e =
     ⊎_elim
@@ -114,7 +115,7 @@ reads_up f n x (a ∷ xs) r e =
 
 -- a row that is not full and finds its bytes takes one more
 reads_past : (f : Bool) (n : ℕ) (x : Buffer) (xs : List ℕ) (r : Reading) → full x.take ≡ false → reads f n x xs ≡ Some r → (x.take.taken < r.taken) × (0 < length xs)
-reads_past f n x [] r h e = absurd (let w = sym (reads_none f n x h) ∙ e in let z : ◌≡◌ {A = ℕ} 0 1 = cc in omega arith)
+reads_past f n x [] r h e = absurd (none-some r (sym (reads_none f n x h) ∙ e))
 reads_past f n x (a ∷ xs) r h e =
     let i = reads_up f n (eat f n x a) xs r (sym (reads_more f n x a xs h) ∙ e) in
     (omega (arith, taken_eat f n x a), omega arith)

@@ -1,6 +1,6 @@
 -- A frame: what each of its clocks finds.
 use Rattle.std.proofs.Common.{◌≡◌, ℕ, zero, suc, ◌+◌, ◌*◌, ◌<◌, ◌≤◌, Bool, true, false, not, ◌&&◌, ◌||◌, eqb, ltb, leb, List, Option, sym, refl, ap, ◌∙◌, ⊎_elim, suc-mul, arith}
-use Rattle.std.proofs.lemmas.Bool.{cases_lt, cases_Bool, lt-ltb, le-ltb, le-leb, lt-leb, not-true, not-false}
+use Rattle.std.proofs.lemmas.Bool.{cases_lt, cases_Bool, lt-ltb, le-ltb, le-leb, lt-leb, not-true, not-false, false≢true}
 use Rattle.std.proofs.lemmas.Bool.Decides.{nat_tests}
 use Rattle.source.specs.Meaning.{handed, left}
 use Rattle.video.specs.Composition.{Shape, width, line_count}
@@ -77,14 +77,10 @@ wants_is : (k : Core) → k.armed ≡ true → k.dark ≡ false → (not (full k
 wants_is k a d = rw (a, d) refl
 
 wants_dark : (k : Core) → k.dark ≡ true → wants k ≡ false
-wants_dark k d = ⊎_elim (λ (a : k.armed ≡ true). rw (a, d) refl) (λ (a : k.armed ≡ false). rw a refl) (cases_Bool k.armed)
+wants_dark k d = grind (arith, nat_tests)
 
 wants_full : (k : Core) → full k.fill.take ≡ true → wants k ≡ false
-wants_full k h =
-    ⊎_elim
-    (λ (a : k.armed ≡ true). ⊎_elim (λ (d : k.dark ≡ true). rw (a, d) refl) (λ (d : k.dark ≡ false). rw (a, d, h) refl) (cases_Bool k.dark))
-    (λ (a : k.armed ≡ false). rw a refl)
-    (cases_Bool k.armed)
+wants_full k h = grind (arith, nat_tests)
 
 pub requests_it :
     (c : Shape) (b : Bursts) (page : List ℕ) (free : ℕ → Bool) (blink t : ℕ) (k : Core) (rest : List ℕ) → Good c b page free blink t k rest
@@ -295,7 +291,7 @@ shows_dark c b page free blink t q k rest g le no_more = go k.row refl
     d = (let y = g.dark_is le in grind (arith, nat_tests))
 
     go : (j : ℕ) → k.row ≡ j → pictured c q k ≡ dark_word (line_count c k.line) (leb c.h k.column) false
-    go zero e = absurd (let z : true ≡ false = sym (ap (in_time c b page free) e) ∙ no_more in let w : ◌≡◌ {A = ℕ} 0 1 = cc in omega arith)
+    go zero e = absurd (false≢true (sym (sym (ap (in_time c b page free) e) ∙ no_more)))
     go (suc i) e = let v : vrtc c k ≡ false = grind (arith, nat_tests) in rw (g.armed, d, v) refl
 
 pub shows_retrace :

@@ -12,11 +12,12 @@ use Rattle.frame.specs.declared.call.Answer.TheVariants.{Byte, Word}
 use Rattle.frame.specs.Ports.{Bursts, State, new, command_refusal, parameter_refusal, status_byte, parameter_byte}
 use Rattle.frame.specs.Timing.{line_clocks, span, total, overdue, late, in_time}
 use Rattle.frame.specs.Machine.{clock_state, clock_source, clock_word}
-use Rattle.frame.specs.History.{Moment, clocked_by, source_by, word_by, stroke_answer, done, call_state, call_source, call_answer, after, answers, words}
+use Rattle.frame.specs.History.{Moment, word_by, stroke_answer, done, call_state, call_source, call_answer, after, answers, words}
 use Rattle.frame.specs.Law.{at_start, Ready, Alike, QuietCall, Quiet, clock_count, clocks, FoundAt, FoundBy, Found, rest_by, picture_bits, place, Played, Equal, Law, FrameLaw}
 use Rattle.frame.proofs.Takes.{takes_mono}
 use Rattle.frame.proofs.Frames.{line_clocks_is}
 use Rattle.frame.proofs.Sound.{history_proper}
+use Rattle.frame.proofs.Threads.{clock_call}
 use Rattle.frame.proofs.Walks.{At, Seen, number, begun_at, clock_on, at_alike, seen}
 
 -- answers that are no words
@@ -100,16 +101,14 @@ by_call c b q page free blink Read m es pr ih t rest s a e h now f room =
 by_call c b q page free blink Stroke m es pr ih t rest s a e h now f room =
     quiet c b q page free blink es ih t rest s _ (stroke_answer s.shape) a e h f room (words_stroke s.shape _)
 by_call c b q page free blink Clock m es pr ih t rest s a e h now f room =
-    let st : call_state Clock s m ≡ clock_state c s m = (clock_call s m c a.composed).0 in
-    let src : call_source Clock s m ≡ clock_source c s m = (clock_call s m c a.composed).1 in
+    let call = clock_call s m c a.composed in
+    let st = call.0 in
+    let src = call.1 in
     let ans : word_by s.shape s ≡ Word (clock_word c s) = ap (λ (o : Option Shape). word_by o s) a.composed in
     let h₂ : Quiet es (clock_state c s m) = subst (Quiet es) st h in
     let f₂ : Found page free (1 + t) (clock_source c s m).rest es (clock_state c s m) =
     subst (λ (s₂ : State). Found page free (1 + t) (clock_source c s m).rest es s₂) st (subst (λ (m₂ : Meaning). Found page free (1 + t) m₂.rest es (call_state Clock s m)) src f) in
     rw (ans, st) (tick c b q page free blink es pr ih t rest s m a h₂ now f₂ room)
-  where
-    clock_call : (s : State) (m : Meaning) (c : Shape) → s.shape ≡ Some c → (call_state Clock s m ≡ clock_state c s m) × (call_source Clock s m ≡ clock_source c s m)
-    clock_call s m c e = (unfold call_state in ap (λ (o : Option Shape). clocked_by o s m) e, unfold call_source in ap (λ (o : Option Shape). source_by o s m) e)
 
 pub walk : (c : Shape) (b : Bursts) (q : Option (ℕ × ℕ)) (page : List ℕ) (free : ℕ → Bool) (blink : ℕ) (es : List Moment) → Proper c → Walks c b q page free blink es
 unfolding after answers

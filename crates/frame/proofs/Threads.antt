@@ -36,6 +36,10 @@ foretold_on c page free t rest s m f =
       rest_is = λ _. refl;
     }
 
+-- a clock as a call
+pub clock_call : (s : State) (m : Meaning) (c : Shape) → s.shape ≡ Some c → (call_state Clock s m ≡ clock_state c s m) × (call_source Clock s m ≡ clock_source c s m)
+clock_call s m c e = (unfold call_state in ap (λ (o : Option Shape). clocked_by o s m) e, unfold call_source in ap (λ (o : Option Shape). source_by o s m) e)
+
 kept_shape : (c : Shape) (s : State) (m : Meaning) → (clock_state c s m).shape ≡ s.shape
 unfolding clock_state
 kept_shape c s m = refl
@@ -64,14 +68,11 @@ thread_call c page free Read cs ih t rest s m e f a q = (tt, thread_quiet c page
 thread_call c page free Stroke cs ih t rest s m e f a q = (tt, thread_quiet c page free cs ih t rest s _ m e f a q)
 thread_call c page free Clock cs ih t rest s m e f a q =
     let src : source_by s.shape s m ≡ clock_source c s m = ap (λ (o : Option Shape). source_by o s m) e in
-    let st : call_state Clock s m ≡ clock_state c s m = clock_is s m c e in
+    let st : call_state Clock s m ≡ clock_state c s m = (clock_call s m c e).0 in
     let shape₂ : (call_state Clock s m).shape ≡ Some c = ap (λ (x : State). x.shape) st ∙ kept_shape c s m ∙ e in
     let g : Foretold page free (1 + t) (source_by s.shape s m).rest (source_by s.shape s m) =
     subst (λ (m₂ : Meaning). Foretold page free (1 + t) m₂.rest m₂) (sym src) (foretold_on c page free t rest s m f) in
     (found_here page free t rest m f, ih (1 + t) (source_by s.shape s m).rest (call_state Clock s m) (source_by s.shape s m) shape₂ g q)
-  where
-    clock_is : (s : State) (m : Meaning) (c : Shape) → s.shape ≡ Some c → call_state Clock s m ≡ clock_state c s m
-    clock_is s m c e = unfold call_state in ap (λ (o : Option Shape). clocked_by o s m) e
 
 thread : (c : Shape) (page : List ℕ) (free : ℕ → Bool) (cs : List Call) → Threads c page free cs
 unfolding over

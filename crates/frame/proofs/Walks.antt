@@ -236,19 +236,16 @@ at_alike c b q page free blink t rest s s₂ a e =
     }
 
 -- picture bits lie below bit 22
+bit_small : (v : Bool) → bit v ≤ 1
+bit_small true = omega arith
+bit_small false = omega arith
+
 signals_small : (n : ℕ) (x : Signals) → n < 16 → signals_word n x < 0x400000
 signals_small n x h =
     omega (arith, bit_small x.la0, bit_small x.la1, bit_small x.lten, bit_small x.rvv, bit_small x.vsp, bit_small x.hglt, bit_small x.gpa0, bit_small x.gpa1)
-  where
-    bit_small : (v : Bool) → bit v ≤ 1
-    bit_small true = omega arith
-    bit_small false = omega arith
 
 dark_small : (n : ℕ) (h v : Bool) → n < 16 → dark_word n h v < 0x400000
-dark_small n true true e = omega arith
-dark_small n true false e = omega arith
-dark_small n false true e = omega arith
-dark_small n false false e = omega arith
+dark_small n h v e = omega (arith, bit_small h, bit_small v)
 
 cell_small : (c : Shape) (line k : ℕ) (here : Bool) (x : Cell) → line_count c line < 16 → cell_word c line k here x < 0x400000
 unfolding cell_word
@@ -269,10 +266,7 @@ picture_small : (c : Shape) (q : Option (ℕ × ℕ)) (k : Core) → line_count 
 picture_small c q k h = pick_small _ _ _ 0x400000 (cell_small c k.line k.blink _ _ h) (dark_small _ _ _ h)
 
 bits_are : (p : ℕ) (w irq : Bool) → p < 0x400000 → ((p + 0x400000 * bit w + 0x800000 * bit irq) % 0x400000 ≡ p) × ((p + 0x400000 * bit w + 0x800000 * bit irq) / 0x400000 % 2 ≡ bit w)
-bits_are p true true h = (omega arith, omega arith)
-bits_are p true false h = (omega arith, omega arith)
-bits_are p false true h = (omega arith, omega arith)
-bits_are p false false h = (omega arith, omega arith)
+bits_are p w irq h = (omega (arith, bit_small w, bit_small irq), omega (arith, bit_small w, bit_small irq))
 
 -- what the word of clock t shows and asks
 pub record Seen (c : Shape) (b : Bursts) (q : Option (ℕ × ℕ)) (page : List ℕ) (free : ℕ → Bool) (blink j l p t w : ℕ) : Type 0 where

@@ -1,5 +1,5 @@
 -- Histories: calls from a new console on, each with the source that it found.
-use Rattle.std.specs.Prelude.{ℕ, List, [], ◌∷◌, Some, None, Option}
+use Rattle.std.specs.Prelude.{ℕ, List, [], ◌∷◌, Some, None, Option, Ok, Err, Result}
 use Rattle.refusal.specs.declared.Refusal.{Refusal}
 use Rattle.refusal.specs.declared.Refusal.TheVariants.{NoComposition}
 use Rattle.source.specs.Meaning.{Meaning}
@@ -36,6 +36,15 @@ stroke_answer (Some c) = Done
 abbrev pub done : Option Refusal → Answer
 done None = Done
 done (Some e) = Refused e
+
+-- the same of what a call returns, and of the word of a clock
+abbrev pub told : Result (Unit {0}) Refusal → Answer
+told (Ok x) = Done
+told (Err e) = Refused e
+
+abbrev pub worded : Result ℕ Refusal → Answer
+worded (Ok w) = Word w
+worded (Err e) = Refused e
 
 -- what a call makes of a console over a source, and of the source, and what it answers
 unfoldable pub call_state : Call → State → Meaning → State

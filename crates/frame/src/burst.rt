@@ -5,7 +5,7 @@ ghost use Rattle.frame.specs.Ports.{Bursts, bursts_of, burst_size, burst_space, 
 
 use rows::burst::BurstSize;
 
-#[derive(Clone, Copy)]
+#[derive(Clone, Copy, PartialEq, Eq, Debug)]
 pub struct Burst {
     pub size: BurstSize,
     pub space: u8,
@@ -14,7 +14,8 @@ pub struct Burst {
 // The burst spaces by their code.
 const SPACES: [u8; 8] = [0, 7, 15, 23, 31, 39, 47, 55];
 
-fn size(code: u8) -> BurstSize
+// The burst size of a code.
+pub fn burst_size(code: u8) -> BurstSize
     ensures { burst_bytes result ≡ burst_size code }
 {
     match code {
@@ -32,11 +33,11 @@ fn space(code: u8) -> u8
 }
 
 impl Burst {
-    // The bursts that a Start command asks for.
+    // The bursts that a Start command asks for; by name and no `From`, since other bytes ask for none.
     pub fn from_command(byte: u8) -> Burst
         ensures { bursts_of result ≡ record { n = burst_size (byte % 4); d = burst_space (byte / 4 % 8) } }
     {
-        let size = size(byte % 4);
+        let size = burst_size(byte % 4);
         let space = space(byte / 4 % 8);
         Burst { size, space }
     }

@@ -1,5 +1,5 @@
 // The flags of the status byte that reading it clears.
-#[derive(Clone, Copy)]
+#[derive(Clone, Copy, PartialEq, Eq, Default, Debug)]
 pub struct Flags {
     // interrupt request
     pub ir: bool,

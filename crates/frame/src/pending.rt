@@ -1,6 +1,7 @@
 // What the ports are waiting for.
-#[derive(Clone, Copy)]
+#[derive(Clone, Copy, PartialEq, Eq, Debug)]
 pub enum Pending {
+    // a variant and no None: an Option would put Some around eight variants, and the matches would lose nothing
     Nothing,
     // the parameters of Reset, and those that have come
     Reset1,

@@ -1,4 +1,4 @@
-// The program `screen` with another example: an encoder for key cards holds the bus.
+// The program `screen` once more, since a program has one stored example: in this one an encoder for key cards holds the bus.
 #![tactic(auto)]
 
 use std::process::ExitCode;

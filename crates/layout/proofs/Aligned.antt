@@ -1,23 +1,28 @@
--- Numbers, right-aligned.
-use Rattle.std.proofs.Common.{◌≡◌, ℕ, zero, suc, ◌+◌, ◌-◌, ◌/◌, ◌%◌, ◌^◌, ◌<◌, ◌≤◌, List, [], ◌∷◌, ◌++◌, length, replicate, decimal, sym, refl, ap, ◌∙◌, append_assoc, add-one, arith, length-append}
-use Rattle.std.proofs.lemmas.Fmt.{decimal_digit, decimal_step}
+-- Numbers, right-aligned, as the library prints them.
+use Rattle.std.proofs.Common.{◌≡◌, ℕ, zero, suc, ◌-◌, ◌^◌, ◌<◌, false, List, [], ◌∷◌, replicate, refl, ap, append-nil, arith}
+use native.Mathlib.Numerals.{unary_clauses}
+use Rattle.std.specs.List.{repeat}
+use Rattle.std.specs.Fmt.{is_bare_number, styled_decimal, padded_integral, char_count, format_spec}
+use Rattle.std.proofs.lemmas.Bool.Decides.{nat_tests}
+use Rattle.std.proofs.lemmas.Str.{encode_ascii}
 use Rattle.layout.specs.Numbers.{right}
 
-pushed : (n c : ℕ) → replicate n c ++ c ∷ [] ≡ c ∷ replicate n c
-pushed zero c = refl
-pushed (suc n) c = ap (λ (x : List ℕ). c ∷ x) (pushed n c)
+pub no_width : (n : ℕ) → 0 - n ≡ 0
+no_width n = omega arith
 
--- one space more
-pub spaces_more : (o : List ℕ) (n c : ℕ) → (o ++ replicate n c) ++ c ∷ [] ≡ o ++ replicate (n + 1) c
-spaces_more o n c = append_assoc o (replicate n c) (c ∷ []) ∙ ap (λ (x : List ℕ). o ++ x) (simp add-one (pushed n c))
+all_before : (n : ℕ) → n - n ≡ 0
+all_before n = omega arith
 
-pub right_digit : (w n : ℕ) → n < 10 → replicate (w - 1) 32 ++ (48 + n) ∷ [] ≡ right w n
-right_digit w n h = rw (decimal_digit n h) refl
+repeated : (n c : ℕ) → repeat n (c ∷ []) ≡ replicate n c
+repeated zero c = refl
+repeated (suc n) c = ap (λ (x : List ℕ). c ∷ x) (repeated n c)
 
-pub right_more : (w n : ℕ) → 10 ≤ n → n < 2 ^ 64 → right (w - 1) (n / 10) ++ (48 + n % 10) ∷ [] ≡ right w n
-right_more w n h b =
-    let d : decimal n ≡ decimal (n / 10) ++ ((48 + n % 10) ∷ []) = decimal_step n h b in
-    let l : length (decimal n) ≡ length (decimal (n / 10)) + 1 = ap length d ∙ length-append (decimal (n / 10)) ((48 + n % 10) ∷ []) in
-    let k : w - 1 - length (decimal (n / 10)) ≡ w - length (decimal n) = omega arith in
-    append_assoc (replicate (w - 1 - length (decimal (n / 10))) 32) (decimal (n / 10)) ((48 + n % 10) ∷ [])
-    ∙ (ap (λ (x : List ℕ). replicate (w - 1 - length (decimal (n / 10))) 32 ++ x) (sym d) ∙ ap (λ (m : ℕ). replicate m 32 ++ decimal n) k)
+wide : (w : ℕ) → is_bare_number (format_spec 32 3 0 (suc w) (2 ^ 64 - 1)) ≡ false
+wide w = grind (arith, nat_tests)
+
+pub aligned : (w n : ℕ) → styled_decimal (format_spec 32 3 0 w (2 ^ 64 - 1)) n ≡ right w n
+unfolding padded_integral char_count
+aligned zero n = simp no_width
+aligned (suc w) n =
+    let l : 32 < 128 = omega arith in
+    simp (wide, unary_clauses, encode_ascii 32 l, repeated, all_before, append-nil)

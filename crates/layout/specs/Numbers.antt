@@ -1,6 +1,6 @@
 -- Numbers as text.
 use Rattle.std.specs.Prelude.{ℕ, ◌-◌, ◌/◌, ◌%◌, List, [], ◌∷◌, ◌++◌, length, replicate, decimal}
-use Rattle.listing.specs.Words.{upper}
+use Rattle.nibble.specs.Digits.{upper}
 
 -- decimal digits, behind as many spaces as make them `width` characters
 abbrev pub right : (width n : ℕ) → List ℕ

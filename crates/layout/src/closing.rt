@@ -1,24 +1,9 @@
 // The lines that close a listing.
-ghost use Rattle.std.specs.Prelude.{◌≡◌, ℕ, ◌-◌, [], ◌∷◌, ◌++◌, OnOk};
-ghost use Rattle.layout.specs.Closing.{counted, still_total, status_line, late_words, late_row, frame_total};
+ghost use Rattle.std.specs.Prelude.{◌≡◌, ℕ, [], ◌∷◌, ◌++◌, OnOk};
+ghost use Rattle.layout.specs.Closing.{still_total, status_line, frame_total};
 
-use crate::numbers::{put_hex, put_right};
+use crate::numbers::{put, put_hex};
 use std::alloc::AllocError;
-
-// A number and the words behind it.
-fn put_count(number: usize, words: &[u8], out: &mut Vec<u8>) -> Result<(), AllocError>
-    ensures { OnOk result (out.new.items ≡ out.old.items ++ counted number words.now) }
-{
-    put_right(number, 0, out)?;
-    out.extend_from_slice(words)?;
-    Ok(())
-}
-
-fn left(page: usize, used: usize) -> usize
-    ensures { result ≡ page - used }
-{
-    page.saturating_sub(used)
-}
 
 // How many of all rows are shown, and how many of a page's bytes they use.
 pub fn put_still_total(
@@ -30,12 +15,13 @@ pub fn put_still_total(
 ) -> Result<(), AllocError>
     ensures { OnOk result (out.new.items ≡ out.old.items ++ still_total shown rows used page) }
 {
-    put_count(shown, b" of ", out)?;
-    put_count(rows as usize, b" rows shown, ", out)?;
-    put_count(used, b" of ", out)?;
-    put_count(page, b" bytes of the page used, ", out)?;
-    put_count(left(page, used), b" left\n", out)?;
-    Ok(())
+    let left = page.saturating_sub(used);
+    put(
+        format_args!(
+            "{shown} of {rows} rows shown, {used} of {page} bytes of the page used, {left} left\n"
+        ),
+        out,
+    )
 }
 
 fn put_status(status: u8, behind: &[u8], out: &mut Vec<u8>) -> Result<(), AllocError>
@@ -43,8 +29,7 @@ fn put_status(status: u8, behind: &[u8], out: &mut Vec<u8>) -> Result<(), AllocE
 {
     out.extend_from_slice(b"status ")?;
     put_hex(status, out)?;
-    out.extend_from_slice(behind)?;
-    Ok(())
+    out.extend_from_slice(behind)
 }
 
 // A line with the status byte.
@@ -52,24 +37,6 @@ pub fn put_status_line(status: u8, out: &mut Vec<u8>) -> Result<(), AllocError>
     ensures { OnOk result (out.new.items ≡ out.old.items ++ status_line status (10 ∷ [])) }
 {
     put_status(status, b"\n", out)
-}
-
-fn late_words(late: Option<u8>) -> &'static [u8]
-    ensures { result.now ≡ late_words late }
-{
-    match late {
-        Some(_) => b"dark from row ",
-        None => b"every row true\n",
-    }
-}
-
-fn put_late_row(late: Option<u8>, out: &mut Vec<u8>) -> Result<(), AllocError>
-    ensures { OnOk result (out.new.items ≡ out.old.items ++ late_row late) }
-{
-    if let Some(row) = late {
-        put_count(row as usize, b" on\n", out)?;
-    }
-    Ok(())
 }
 
 // The status byte, the clocks of all frames, and the first late row.
@@ -82,8 +49,9 @@ pub fn put_frame_total(
     ensures { OnOk result (out.new.items ≡ out.old.items ++ frame_total status played late) }
 {
     put_status(status, b", ", out)?;
-    put_count(played, b" clocks played\n", out)?;
-    out.extend_from_slice(late_words(late))?;
-    put_late_row(late, out)?;
-    Ok(())
+    put(format_args!("{played} clocks played\n"), out)?;
+    match late {
+        Some(row) => put(format_args!("dark from row {row} on\n"), out),
+        None => out.extend_from_slice(b"every row true\n"),
+    }
 }

@@ -3,7 +3,7 @@ ghost use Rattle.std.specs.Prelude.{◌≡◌, ℕ, ◌++◌, OnOk};
 ghost use Rattle.layout.specs.Lines.{under, still_heading, frame_heading, still_figures, fate_word, fate_clocks, frame_figures};
 
 use crate::fate::Fate;
-use crate::numbers::put_right;
+use crate::numbers::{put, put_right};
 use std::alloc::AllocError;
 
 // A heading, where there is nothing yet.
@@ -26,42 +26,18 @@ pub fn put_still_figures(
     ensures { OnOk result (out.new.items ≡ out.old.items ++ (under still_heading out.old.items ++ still_figures row place taken)) }
 {
     put_heading(b"row  place  bytes  text\n", out)?;
-    put_right(row as usize, 3, out)?;
-    put_right(place, 7, out)?;
-    put_right(taken, 7, out)?;
-    Ok(())
+    put(format_args!("{row:>3}{place:>7}{taken:>7}"), out)
 }
 
-fn fate_word(fate: Fate) -> &'static [u8]
-    ensures { result.now ≡ fate_word fate }
+// What becomes of a row, the clock of its last byte, and the last clock that would have been in time.
+fn put_fate(fate: Fate, due: usize, out: &mut Vec<u8>) -> Result<(), AllocError>
+    ensures { OnOk result (out.new.items ≡ out.old.items ++ (fate_word fate ++ fate_clocks fate due)) }
 {
     match fate {
-        Fate::Shown(_) => b"  shown",
-        Fate::Late => b"  late ",
-        Fate::Dark => b"  dark ",
-        Fate::Blank => b"  blank",
-    }
-}
-
-// The clock of the last byte, and the last clock that would have been in time.
-fn put_clocks(fate: Fate, due: usize, out: &mut Vec<u8>) -> Result<(), AllocError>
-    ensures { OnOk result (out.new.items ≡ out.old.items ++ fate_clocks fate due) }
-{
-    match fate {
-        Fate::Shown(last) => {
-            put_right(last as usize, 7, out)?;
-            put_right(due, 7, out)?;
-            Ok(())
-        }
-        Fate::Late => {
-            out.extend_from_slice(b"      -")?;
-            put_right(due, 7, out)?;
-            Ok(())
-        }
-        Fate::Dark | Fate::Blank => {
-            out.extend_from_slice(b"      -      -")?;
-            Ok(())
-        }
+        Fate::Shown(last) => put(format_args!("  shown{last:>7}{due:>7}"), out),
+        Fate::Late => put(format_args!("  late       -{due:>7}"), out),
+        Fate::Dark => out.extend_from_slice(b"  dark       -      -"),
+        Fate::Blank => out.extend_from_slice(b"  blank      -      -"),
     }
 }
 
@@ -76,7 +52,5 @@ pub fn put_frame_figures(
 {
     put_heading(b"row  state   last    due  text\n", out)?;
     put_right(row as usize, 3, out)?;
-    out.extend_from_slice(fate_word(fate))?;
-    put_clocks(fate, due, out)?;
-    Ok(())
+    put_fate(fate, due, out)
 }

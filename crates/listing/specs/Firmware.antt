@@ -4,7 +4,7 @@ use Rattle.refusal.specs.declared.Refusal.{Refusal}
 use Rattle.refusal.specs.declared.Refusal.TheVariants.{TooManyColumns}
 use Rattle.video.specs.Composition.{allowed}
 use Rattle.frame.specs.Ports.{State, new, commanded, command_refusal, parameter_written}
-use Rattle.arguments.specs.declared.figures.ResetParameters.{ResetParameters}
+use Rattle.video.specs.declared.parameters.ResetParameters.{ResetParameters}
 
 -- Reset and its four parameters
 abbrev pub composed : ResetParameters → State

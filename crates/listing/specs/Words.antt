@@ -1,8 +1,6 @@
 -- Words in hexadecimal digits.
-use Rattle.std.specs.Prelude.{ℕ, ◌+◌, ◌/◌, ◌%◌, cond, List, [], ◌∷◌, ◌++◌, nat_lt}
-
-abbrev pub upper : ℕ → ℕ
-upper v = cond (nat_lt v 10) (48 + v) (55 + v)
+use Rattle.std.specs.Prelude.{ℕ, ◌/◌, ◌%◌, List, [], ◌∷◌, ◌++◌}
+use Rattle.nibble.specs.Digits.{upper}
 
 -- a word in eight digits, and a line feed
 abbrev pub word_line : ℕ → List ℕ

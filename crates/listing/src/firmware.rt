@@ -5,9 +5,9 @@ ghost use Rattle.video.specs.Composition.{allowed};
 ghost use Rattle.console.specs.Model.{state_of};
 ghost use Rattle.listing.specs.Firmware.{composed, pointed, programmed, programming_refusal};
 
-use arguments::figures::ResetParameters;
 use console::state::Console;
 use refusal::Refusal;
+use video::parameters::ResetParameters;
 
 fn reset(parameters: ResetParameters) -> Result<Console, Refusal>
     ensures { MatchResult result (λ k. (state_of k ≡ composed parameters) × (allowed parameters.first ≡ true)) (λ e. (e ≡ TooManyColumns) × (allowed parameters.first ≡ false)) }

@@ -14,7 +14,7 @@ pub enum Glyph {
 }
 
 impl Glyph {
-    // The glyph in ASCII, a full stop for a character that has no print.
+    // The glyph in ASCII, a full stop for a character that has no print: a byte and no `Display`, since a row's text is bytes.
     pub fn byte(self) -> u8
         ensures { result ≡ glyph_byte self }
     {
@@ -23,10 +23,8 @@ impl Glyph {
             Glyph::Upright => b'|',
             Glyph::Level => b'-',
             Glyph::Joint => b'+',
-            Glyph::Character(code) => match code {
-                0x20..=0x7E => code,
-                _ => b'.',
-            },
+            Glyph::Character(code @ 0x20..=0x7E) => code,
+            Glyph::Character(_) => b'.',
         }
     }
 }

@@ -1,5 +1,5 @@
 // What the lit lines of a column say together.
-ghost use Rattle.std.specs.Prelude.{◌≡◌, ℕ, ◌/◌, ◌%◌, ◌<◌, []};
+ghost use Rattle.std.specs.Prelude.{◌≡◌, ℕ, ◌<◌, []};
 ghost use Rattle.video.specs.Fields.{has};
 ghost use Rattle.listing.specs.Looks.{figure};
 ghost use Rattle.listing.specs.Summary.{summary, above, glyph_kept, marks_kept};
@@ -10,10 +10,9 @@ use crate::marks::Marks;
 // A line is lit where its video is not suppressed.
 #[derive(Clone, Copy)]
 pub struct Lit {
-    pub any: bool,
+    // the character code of the topmost, if any is lit
+    pub code: Option<u8>,
     pub several: bool,
-    // the character code of the topmost
-    pub code: u8,
     // some line has a line attribute, light enable, reverse video, highlight
     pub attributes: bool,
     pub light: bool,
@@ -46,9 +45,8 @@ impl Lit {
         ensures { result ≡ summary [] }
     {
         Lit {
-            any: false,
+            code: None,
             several: false,
-            code: 0,
             attributes: false,
             light: false,
             reverse: false,
@@ -64,9 +62,8 @@ impl Lit {
             return self;
         }
         Lit {
-            any: true,
-            several: self.any,
-            code: (word % 128) as u8,
+            code: Some((word % 128) as u8),
+            several: self.code.is_some(),
             attributes: has(0x1000, word) | has(0x2000, word) | self.attributes,
             light: has(0x4000, word) | self.light,
             reverse: has(0x8000, word) | self.reverse,
@@ -77,26 +74,19 @@ impl Lit {
     pub fn glyph(self) -> Glyph
         ensures { result ≡ glyph_kept self }
     {
-        if !self.any {
-            return Glyph::Blank;
+        match self.code {
+            None => Glyph::Blank,
+            Some(code) if self.attributes => figure(code / 4 % 16),
+            // light on the only line that is lit: a line from side to side
+            Some(_) if self.light & !self.several => Glyph::Level,
+            Some(code) => Glyph::Character(code),
         }
-        if self.attributes {
-            return figure(self.code / 4 % 16);
-        }
-        // light on the only line that is lit: a line from side to side
-        if self.light & !self.several {
-            return Glyph::Level;
-        }
-        Glyph::Character(self.code)
     }
 
     pub fn marks(self) -> Marks
         ensures { result ≡ marks_kept self }
     {
-        let written = match self.glyph() {
-            Glyph::Character(_) => true,
-            _ => false,
-        };
+        let written = matches!(self.glyph(), Glyph::Character(_));
         Marks {
             reverse: self.reverse,
             underline: written & self.light,

@@ -10,7 +10,7 @@ pub struct Marks {
 }
 
 impl Marks {
-    // The marks as one character: `=` reverse, `_` underline, `!` highlight, `#` more than one.
+    // The marks as one character, which is a byte as a glyph is: `=` reverse, `_` underline, `!` highlight, `#` more than one.
     pub fn byte(self) -> u8
         ensures { result ≡ mark_byte self }
     {

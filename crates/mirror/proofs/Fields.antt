@@ -1,7 +1,7 @@
 -- A field's code asks for that field.
 use Rattle.std.proofs.Common.{◌≡◌, ℕ, ◌+◌, ◌*◌, ◌/◌, ◌%◌, ◌≤◌, Bool, true, false, eqb, arith, lit≤}
 use Rattle.video.specs.Fields.{field_of}
-use Rattle.video.specs.Picture.{bit}
+use Rattle.std.specs.Int.{from_bool as bit}
 use Rattle.video.specs.declared.field.Field.{Field}
 
 small : (b : Bool) → bit b ≤ 1

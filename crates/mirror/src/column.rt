@@ -1,7 +1,6 @@
 // Columns and fields as numbers.
-ghost use Rattle.std.specs.Prelude.{◌≡◌, map};
+ghost use Rattle.std.specs.Prelude.{◌≡◌};
 ghost use Rattle.video.specs.Fields.{field_of};
-ghost use Rattle.video.specs.Picture.{bit};
 ghost use Rattle.mirror.specs.Codes.{column_in};
 
 use crate::numbers::Place;
@@ -9,73 +8,54 @@ use rows::kinds::Column;
 use video::cell::Cell;
 use video::field::Field;
 
-pub(crate) fn bit(b: bool) -> u8
-    ensures { result ≡ bit b }
-{
-    if b { 1 } else { 0 }
-}
-
-// The low six bits of the code that asks for a field.
+// The low six bits of the code that asks for a field. No `From`: neither Field nor u8 is a type of this crate.
+#[tactic(auto, using(crate::proofs::Fields::code_back))]
 pub(crate) fn field_code(field: Field) -> u8
     ensures { field_of result ≡ field }
 {
-    32 * bit(field.underline)
-        + 16 * bit(field.reverse)
-        + 8 * bit(field.gpa1)
-        + 4 * bit(field.gpa0)
-        + 2 * bit(field.blink)
-        + bit(field.highlight)
+    32 * u8::from(field.underline)
+        + 16 * u8::from(field.reverse)
+        + 8 * u8::from(field.gpa1)
+        + 4 * u8::from(field.gpa0)
+        + 2 * u8::from(field.blink)
+        + u8::from(field.highlight)
 }
 
-fn column(place: Place) -> Column
-    ensures { result ≡ column_in place }
-{
-    let field = Field::from_code(place.field);
-    match place.kind {
-        0 => Column::Fixed(Cell::Dark),
-        1 => Column::Fixed(Cell::Text(place.byte, field)),
-        2 => Column::Fixed(Cell::Symbol(place.byte, field)),
-        _ => Column::Memory(place.byte, field),
+impl From<Place> for Column {
+    ghost from_gives = { λ p c. c ≡ column_in p };
+
+    fn from(place: Place) -> Column {
+        let field = Field::from_code(place.field);
+        match place.kind {
+            0 => Column::Fixed(Cell::Dark),
+            1 => Column::Fixed(Cell::Text(place.byte, field)),
+            2 => Column::Fixed(Cell::Symbol(place.byte, field)),
+            _ => Column::Memory(place.byte, field),
+        }
     }
 }
 
-fn place(column: Column) -> Place
-    ensures { column_in result ≡ column }
-{
-    let (kind, byte, field) = match column {
-        Column::Fixed(Cell::Dark) => (0, 0, Field::none()),
-        Column::Fixed(Cell::Text(byte, field)) => (1, byte, field),
-        Column::Fixed(Cell::Symbol(byte, field)) => (2, byte, field),
-        Column::Memory(byte, field) => (3, byte, field),
-    };
-    Place {
-        kind,
-        byte,
-        field: field_code(field),
-    }
-}
+impl From<Column> for Place {
+    ghost from_gives = { λ c p. column_in p ≡ c };
 
-pub(crate) fn columns(places: &[Place; 80]) -> [Column; 80]
-    ensures { result ≡ map column_in places.now }
-{
-    let mut columns = [Column::Fixed(Cell::Dark); 80];
-    for k in 0..80 {
-        columns[k] = column(places[k]);
+    fn from(column: Column) -> Place {
+        match column {
+            Column::Fixed(Cell::Dark) => Place::default(),
+            Column::Fixed(Cell::Text(byte, field)) => Place {
+                kind: 1,
+                byte,
+                field: field_code(field),
+            },
+            Column::Fixed(Cell::Symbol(byte, field)) => Place {
+                kind: 2,
+                byte,
+                field: field_code(field),
+            },
+            Column::Memory(byte, field) => Place {
+                kind: 3,
+                byte,
+                field: field_code(field),
+            },
+        }
     }
-    columns
-}
-
-pub(crate) fn places(columns: &[Column; 80]) -> [Place; 80]
-    ensures { map column_in result ≡ columns.now }
-{
-    let none = Place {
-        kind: 0,
-        byte: 0,
-        field: 0,
-    };
-    let mut places = [none; 80];
-    for k in 0..80 {
-        places[k] = place(columns[k]);
-    }
-    places
 }

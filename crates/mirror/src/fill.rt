@@ -4,23 +4,11 @@ ghost use Rattle.rows.specs.Bound.{ahead};
 ghost use Rattle.rows.specs.Model.{buffer_of};
 ghost use Rattle.mirror.specs.Codes.{phase_in, buffer_in, fill_sound};
 
-use crate::column::{bit, field_code};
-use crate::numbers::Filling;
-use crate::row::{row, showing};
+use crate::column::field_code;
+use crate::numbers::{Filling, Row};
 use rows::kinds::Phase;
 use rows::state::{RowBuffer, Taking};
 use video::field::Field;
-
-fn phase(phase: u8, field: u8) -> Phase
-    ensures { result ≡ phase_in phase field }
-{
-    match phase {
-        0 => Phase::Ready,
-        1 => Phase::Second(Field::from_code(field)),
-        2 => Phase::Extra,
-        _ => Phase::Done,
-    }
-}
 
 // The bytes more than two to a position that may have come.
 fn ahead(phase: Phase) -> u16
@@ -32,33 +20,7 @@ fn ahead(phase: Phase) -> u16
     }
 }
 
-// None where the ranges do not hold.
-pub(crate) fn buffer(filling: &Filling) -> Option<RowBuffer>
-    ensures { elim result [
-      | None ↦ fill_sound filling.now ≡ false
-      | Some b ↦ (fill_sound filling.now ≡ true) × (buffer_of b ≡ buffer_in filling.now)
-    ] }
-{
-    let show = showing(&filling.row)?;
-    let phase = phase(filling.phase, filling.field);
-    if filling.room as u16 + filling.row.len as u16 > 80 {
-        return None;
-    }
-    if filling.taken as u16 + 2 * filling.room as u16 > 160 + ahead(phase) {
-        return None;
-    }
-    Some(RowBuffer {
-        take: Taking {
-            phase,
-            room: filling.room,
-            taken: filling.taken,
-            over: filling.over != 0,
-        },
-        show,
-    })
-}
-
-// A phase's number, and the code of the field that waits in it.
+// A phase's number, and the code of the field that waits in it: two bytes of a filling, with no type of their own.
 fn phase_code(phase: Phase) -> (u8, u8)
     ensures { phase_in result.0 result.1 ≡ phase }
 {
@@ -70,17 +32,55 @@ fn phase_code(phase: Phase) -> (u8, u8)
     }
 }
 
-pub(crate) fn filling(buffer: &RowBuffer) -> Filling
-    ensures sound { fill_sound result ≡ true }
-    ensures is { buffer_in result ≡ buffer_of buffer.now }
-{
-    let (phase, field) = phase_code(buffer.take.phase);
-    Filling {
-        phase,
-        field,
-        room: buffer.take.room,
-        taken: buffer.take.taken,
-        over: bit(buffer.take.over),
-        row: row(&buffer.show),
+impl Filling {
+    fn phase(&self) -> Phase
+        ensures { result ≡ phase_in self.now.phase self.now.field }
+    {
+        match self.phase {
+            0 => Phase::Ready,
+            1 => Phase::Second(Field::from_code(self.field)),
+            2 => Phase::Extra,
+            _ => Phase::Done,
+        }
+    }
+
+    // None where the ranges do not hold.
+    pub(crate) fn buffer(&self) -> Option<RowBuffer>
+        ensures { elim result [
+          | None ↦ fill_sound self.now ≡ false
+          | Some b ↦ (fill_sound self.now ≡ true) × (buffer_of b ≡ buffer_in self.now)
+        ] }
+    {
+        let show = self.row.showing()?;
+        let phase = self.phase();
+        let room = u16::from(self.room);
+        if room + u16::from(self.row.len) > 80
+            || u16::from(self.taken) + 2 * room > 160 + ahead(phase)
+        {
+            return None;
+        }
+        let take = Taking {
+            phase,
+            room: self.room,
+            taken: self.taken,
+            over: self.over != 0,
+        };
+        Some(RowBuffer { take, show })
+    }
+}
+
+impl From<&RowBuffer> for Filling {
+    ghost from_gives = { λ b f. (fill_sound f ≡ true) × (buffer_in f ≡ buffer_of b.now) };
+
+    fn from(buffer: &RowBuffer) -> Filling {
+        let (phase, field) = phase_code(buffer.take.phase);
+        Filling {
+            phase,
+            field,
+            room: buffer.take.room,
+            taken: buffer.take.taken,
+            over: u8::from(buffer.take.over),
+            row: Row::from(&buffer.show),
+        }
     }
 }

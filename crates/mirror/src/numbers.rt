@@ -1,8 +1,9 @@
 // What a console holds, as numbers. Every number is one byte, so that there are no gaps, and any bytes can be read.
+// C reads and writes these structs and any byte may come: so kinds and flags are numbers here, and a value stands beside its flag.
 
 // A column of a row: 0 dark, 1 a character, 2 a graphic code, 3 a field character by its number; in its field.
 #[repr(C)]
-#[derive(Clone, Copy)]
+#[derive(Clone, Copy, Default)]
 pub struct Place {
     pub kind: u8,
     pub byte: u8,
@@ -37,7 +38,7 @@ pub struct Filling {
 
 // The composition, if it is loaded.
 #[repr(C)]
-#[derive(Clone, Copy)]
+#[derive(Clone, Copy, Default)]
 pub struct Layout {
     pub loaded: u8,
     pub columns: u8,
@@ -55,7 +56,7 @@ pub struct Layout {
 // What the ports wait for: 0 nothing, 1 to 4 a parameter of Reset, 5 and 6 one of Load Cursor, 7 and 8 a read of the light pen; and the
 // parameters that have come.
 #[repr(C)]
-#[derive(Clone, Copy)]
+#[derive(Clone, Copy, Default)]
 pub struct Waits {
     pub kind: u8,
     pub first: u8,

@@ -1,8 +1,7 @@
 // Plays hexadecimal lines from standard input on one console, and prints the answers.
 #![tactic(auto)]
 
-use anyhow::anyhow;
-use refusal::Refusal;
+use anyhow::Error;
 use replay::Player;
 use std::io;
 use std::io::{Read, Write};
@@ -11,14 +10,6 @@ const PART: usize = 65_536;
 
 // So few bytes end at most three lines of clocks, whose answers fit in little memory.
 const FEW: usize = 16;
-
-// A play is refused for want of memory alone.
-fn go_on<T: Drop>(played: Result<T, Refusal>) -> anyhow::Result<T> {
-    match played {
-        Ok(value) => Ok(value),
-        Err(_) => Err(anyhow!("out of memory")),
-    }
-}
 
 fn next_part<'a, R: Read>(input: &mut R, buffer: &'a mut [u8]) -> io::Result<&'a [u8]> {
     let n = input.read(buffer)?;
@@ -32,7 +23,7 @@ fn play_part<W: Write>(
     output: &mut W,
 ) -> anyhow::Result<()> {
     for bytes in part.chunks(FEW) {
-        go_on(player.feed(bytes, out))?;
+        player.feed(bytes, out).map_err(Error::msg)?;
         if out.len() >= PART {
             output.write_all(out.as_slice())?;
             out.clear();
@@ -43,11 +34,12 @@ fn play_part<W: Write>(
 
 fn run(rt: &HostRuntime) -> anyhow::Result<()> {
     let heap = rt.alloc();
-    let mut player = go_on(Player::new(heap))?;
+    let mut player = Player::new(heap).map_err(Error::msg)?;
     let mut input = rt.stdin();
     let mut output = rt.stdout();
-    let mut buffer = Vec::from_elem(heap, 0u8, PART)?;
+    let mut buffer = vec![in heap; 0u8; PART]?;
     let mut out = Vec::new(heap);
+    // counted, since each loop must have an end
     for _ in 0..u64::MAX {
         let part = next_part(&mut input, buffer.as_mut_slice())?;
         if part.is_empty() {
@@ -55,7 +47,7 @@ fn run(rt: &HostRuntime) -> anyhow::Result<()> {
         }
         play_part(&mut player, part, &mut out, &mut output)?;
     }
-    go_on(player.finish(&mut out))?;
+    player.finish(&mut out).map_err(Error::msg)?;
     output.write_all(out.as_slice())?;
     output.flush()?;
     Ok(())

@@ -11,33 +11,23 @@ use std::fmt;
 // Each refusal has a number, and of two that apply the smaller wins.
 #[derive(Clone, Copy, PartialEq, Eq, Debug)]
 pub enum Refusal {
-    NoComposition,
-    UnknownCommand,
-    TooManyColumns,
-    PageTooLong,
-    BadBus,
-    NoSuchRow,
-    BufferTooSmall,
-    PageEnds,
+    NoComposition = 1,
+    UnknownCommand = 2,
+    TooManyColumns = 3,
+    PageTooLong = 4,
+    BadBus = 5,
+    NoSuchRow = 6,
+    BufferTooSmall = 7,
+    PageEnds = 8,
     // want of memory: no refusal of the controller's, but a call that allocates can end so
-    OutOfMemory,
+    OutOfMemory = 255,
 }
 
 impl Refusal {
     pub fn number(self) -> u8
         ensures { result ≡ number self }
     {
-        match self {
-            Refusal::NoComposition => 1,
-            Refusal::UnknownCommand => 2,
-            Refusal::TooManyColumns => 3,
-            Refusal::PageTooLong => 4,
-            Refusal::BadBus => 5,
-            Refusal::NoSuchRow => 6,
-            Refusal::BufferTooSmall => 7,
-            Refusal::PageEnds => 8,
-            Refusal::OutOfMemory => 255,
-        }
+        self as u8
     }
 
     fn words(self) -> &'static str
@@ -57,12 +47,12 @@ impl Refusal {
     }
 }
 
+// By hand, since thiserror's derive promises nothing of what is printed.
 impl fmt::Display for Refusal {
     ghost output = { λ x. Some (words x) };
 
     fn fmt<W: fmt::Write>(&self, f: &mut fmt::Formatter<W>) -> fmt::Result {
-        let words = self.words();
-        write!(f, "{words}")
+        f.write_str(self.words())
     }
 }
 

@@ -1,5 +1,5 @@
 -- What the lines play on, and what a request makes of it.
-use Rattle.std.specs.Prelude.{◌≡◌, ℕ, ◌≤◌, Bool, true, false, List, [], ◌∷◌, ◌++◌, length, replicate, Ok, Err, Result}
+use Rattle.std.specs.Prelude.{ℕ, Bool, true, false, List, [], ◌∷◌, ◌++◌, replicate, Ok, Err, Result}
 use Rattle.source.specs.Meaning.{Meaning, filled}
 use Rattle.source.specs.Buses.{always}
 use Rattle.frame.specs.declared.call.Call.{Call}
@@ -12,7 +12,6 @@ use Rattle.frame.specs.History.{after, answers, over, source_after}
 use Rattle.replay.specs.declared.faults.Fault.{Fault}
 use Rattle.replay.specs.declared.requests.Request.{Request}
 use Rattle.replay.specs.declared.requests.Request.TheVariants.{Single, Clocks, Page}
-use Rattle.replay.specs.Requests.{requested, bytes_from}
 
 -- a console over a source whose bus is always free, the page so far, and whether it is closed
 pub record Desk : Type 0 where
@@ -37,28 +36,21 @@ abbrev pub added : List ℕ → Desk → Desk
 added bytes d = record { console = d.console; source = filled (d.page ++ bytes) always; page = d.page ++ bytes; closed = d.closed }
 
 -- what a request makes of the desk, and what is answered
-abbrev pub performed : Request → (line : List ℕ) → Desk → Desk
-performed (Single c) l d = called (c ∷ []) d
-performed (Clocks n) l d = called (replicate n Clock) d
-performed (Page n) l d = added (bytes_from l 1 n) d
+abbrev pub performed : Request → Desk → Desk
+performed (Single c) d = called (c ∷ []) d
+performed (Clocks n) d = called (replicate n Clock) d
+performed (Page bytes) d = added bytes d
 
 abbrev pub answered : Request → Desk → List Answer
 answered (Single c) d = replies (c ∷ []) d
 answered (Clocks n) d = replies (replicate n Clock) d
-answered (Page n) d = Done ∷ []
+answered (Page bytes) d = Done ∷ []
 
 -- a faulty line alters nothing
-abbrev pub followed : Result Request Fault → (line : List ℕ) → Desk → Desk
-followed (Ok q) l d = performed q l d
-followed (Err f) l d = d
+abbrev pub followed : Result Request Fault → Desk → Desk
+followed (Ok q) d = performed q d
+followed (Err f) d = d
 
 abbrev pub answers_to : Result Request Fault → Desk → List Answer
 answers_to (Ok q) d = answered q d
 answers_to (Err f) d = []
-
--- a line that asks for q, or has a fault, has been played
-pub record Follows (q : Result Request Fault) (l : List ℕ) (d d₂ : Desk) (xs : List Answer) : Type 0 where
-  pub is : q ≡ requested d.closed (length d.page) l
-  pub desk : d₂ ≡ followed q l d
-  pub answers_are : xs ≡ answers_to q d
-  pub few : length xs ≤ 65535

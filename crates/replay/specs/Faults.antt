@@ -1,5 +1,5 @@
 -- The layer, the number and the column of a fault.
-use Rattle.std.specs.Prelude.{ℕ}
+use Rattle.std.specs.Prelude.{ℕ, None, Option}
 use Rattle.refusal.specs.Numbers.{number}
 use Rattle.replay.specs.declared.faults.EventFault.TheVariants.{PageTooLong, Malformed}
 use Rattle.replay.specs.declared.faults.Fault.{Fault}
@@ -16,7 +16,7 @@ number_of (Event PageTooLong) = 4
 number_of (Event Malformed) = 10
 number_of (Port f) = number f.refusal
 
-abbrev pub column_of : Fault → ℕ
+abbrev pub column_of : Fault → Option ℕ
 column_of (Line f) = f.column
-column_of (Event f) = 0
-column_of (Port f) = 0
+column_of (Event f) = None
+column_of (Port f) = None

@@ -1,5 +1,5 @@
 -- What is printed: answers, faults, lines, and whole texts.
-use Rattle.std.specs.Prelude.{◌≡◌, ℕ, ◌+◌, cond, List, [], ◌∷◌, ◌++◌, length, take, Ok, Err, Result, ◌==◌, nat_le}
+use Rattle.std.specs.Prelude.{◌≡◌, ℕ, ◌+◌, cond, List, [], ◌∷◌, ◌++◌, length, take, unwrap_or, Ok, Err, Result, ◌==◌, nat_le}
 use Rattle.frame.specs.declared.call.Answer.{Answer}
 use Rattle.frame.specs.declared.call.Answer.TheVariants.{Done, Byte, Word, Refused}
 use Rattle.replay.specs.declared.faults.PortFault.{PortFault}
@@ -54,13 +54,25 @@ abbrev pub verdict : Result Request Fault → List Answer → Result Unit Fault
 verdict (Ok q) xs = from_port (outcome xs)
 verdict (Err f) xs = Err f
 
--- a fault: FF, layer, number, line and column
+-- a fault: FF, layer, number, line and column, which is 00 where there is none
 unfoldable pub fault_line : Fault → (line : ℕ) → List ℕ
-fault_line f n = two 0xFF ++ (two (layer f) ++ (two (number_of f) ++ (four n ++ (two (column_of f) ++ 10 ∷ []))))
+fault_line f n = two 0xFF ++ (two (layer f) ++ (two (number_of f) ++ (four n ++ (two (unwrap_or (column_of f) 0) ++ 10 ∷ []))))
 
 abbrev pub fault_text : Result Unit Fault → (line : ℕ) → List ℕ
 fault_text (Ok x) n = []
 fault_text (Err f) n = fault_line f n
+
+-- what a line asks of a desk
+abbrev pub asked_of : Desk → (line : List ℕ) → Result Request Fault
+asked_of d l = requested d.closed (length d.page) l
+
+-- the answers that a line prints, and its fault
+abbrev pub reply : Result Request Fault → List Answer → (line : ℕ) → List ℕ
+reply q xs n = spoken q xs ++ fault_text (verdict q xs) n
+
+-- line number n has been followed
+abbrev pub Followed : Desk → (line : List ℕ) → (n : ℕ) → (out : List ℕ) → Desk → (out₂ : List ℕ) → Type 0
+Followed d l n out d₂ out₂ = (d₂ ≡ followed (asked_of d l) d) × (out₂ ≡ out ++ reply (asked_of d l) (answers_to (asked_of d l) d) n)
 
 -- the desk, and how many lines there have been
 pub record Stage : Type 0 where
@@ -71,19 +83,17 @@ abbrev pub new : Stage
 new = record { desk = new_desk; number = 0 }
 
 abbrev pub request_at : Stage → (line : List ℕ) → Result Request Fault
-request_at s l = requested s.desk.closed (length s.desk.page) l
+request_at s l = asked_of s.desk l
 
 abbrev pub answers_at : Stage → (line : List ℕ) → List Answer
 answers_at s l = answers_to (request_at s l) s.desk
 
 -- what a line prints, and what stands after it; nothing after line 65,535
 unfoldable pub said : Stage → (line : List ℕ) → List ℕ
-said s l =
-    cond (nat_le 65535 s.number) []
-    (spoken (request_at s l) (answers_at s l) ++ fault_text (verdict (request_at s l) (answers_at s l)) (s.number + 1))
+said s l = cond (nat_le 65535 s.number) [] (reply (request_at s l) (answers_at s l) (s.number + 1))
 
 unfoldable pub next : Stage → (line : List ℕ) → Stage
-next s l = cond (nat_le 65535 s.number) s (record { desk = followed (request_at s l) l s.desk; number = s.number + 1 })
+next s l = cond (nat_le 65535 s.number) s (record { desk = followed (request_at s l) s.desk; number = s.number + 1 })
 
 -- a last line without its line feed
 abbrev pub ended : Stage → (held : List ℕ) → List ℕ

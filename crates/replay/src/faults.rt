@@ -5,10 +5,10 @@ ghost use Rattle.replay.specs.Faults.{layer, number_of, column_of};
 
 use refusal::Refusal;
 
-// The line isn't a text of bytes. Its first wrong digit stands in this column, counted from 1; 0 where there is none to point at.
+// The line isn't a text of bytes. Its first wrong digit, if it has one, stands in this column, counted from 1.
 #[derive(Clone, Copy)]
 pub struct LineFault {
-    pub column: u8,
+    pub column: Option<u8>,
 }
 
 #[derive(Clone, Copy)]
@@ -55,6 +55,7 @@ impl From<PortFault> for Fault {
 }
 
 impl Fault {
+    // The numbers of the line that is printed.
     pub(crate) fn layer(self) -> u8
         ensures { result ≡ layer self }
     {
@@ -76,12 +77,12 @@ impl Fault {
         }
     }
 
-    pub(crate) fn column(self) -> u8
+    pub(crate) fn column(self) -> Option<u8>
         ensures { result ≡ column_of self }
     {
         match self {
             Fault::Line(fault) => fault.column,
-            Fault::Event(_) | Fault::Port(_) => 0,
+            Fault::Event(_) | Fault::Port(_) => None,
         }
     }
 }

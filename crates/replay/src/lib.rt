@@ -1,6 +1,7 @@
 // The player: hexadecimal lines in, the answers of one console out.
 #![tactic(auto)]
 
+mod bytes;
 mod digits;
 mod faults;
 mod machine;

@@ -9,12 +9,13 @@ use std::alloc::Global;
 #[derive(Drop)]
 pub(crate) struct Machine {
     console: Console,
-    bus: FreeBus,
-    // the page bytes so far; the bus gets them when the page is closed
+    // the page bytes so far
     page: Vec<u8>,
-    closed: bool,
+    // hands out the page, once calls have closed it
+    bus: Option<FreeBus>,
     // what the latest request was answered
     answers: Vec<Answer>,
+    // for the bus
     heap: Global,
     ghost room: { 16384 ≤ vec_capacity page },
     ghost short: { vec_len page ≤ 16384 },

@@ -1,75 +1,60 @@
 // What a line asks for, as the line layer and the event layer read it.
-ghost use Rattle.std.specs.Prelude.{◌≡◌, ℕ, ◌/◌, ◌%◌, ◌≤◌, length};
-ghost use Rattle.replay.specs.Digits.{byte_at};
-ghost use Rattle.replay.specs.Requests.{sound, asked, requested, FitsEvent, Fits};
+ghost use Rattle.std.specs.Prelude.{◌≡◌, ◌≤◌, IfOk};
+ghost use Rattle.replay.specs.Requests.{sound, asked, requested, FitsRequest};
 
-use crate::digits::{byte_at, wrong_column};
+use crate::bytes::Bytes;
+use crate::digits::{LONGEST_LINE, wrong_column};
 use crate::faults::{EventFault, Fault, LineFault};
 use frame::call::Call;
 
-pub(crate) const LONGEST_LINE: usize = 66;
-
 pub(crate) const LONGEST_PAGE: usize = 16_384;
 
-#[derive(Clone, Copy)]
+#[derive(Drop)]
 pub enum Request {
     Single(Call),
     Clocks(u16),
-    // so many page bytes
-    Page(u8),
+    // these page bytes
+    Page(Bytes),
 }
 
 fn check(line: &[u8]) -> Result<(), LineFault>
     ensures { result ≡ sound line.now }
 {
     let column = wrong_column(line);
-    if column != 0 {
-        return Err(LineFault { column });
-    }
-    if line.is_empty() {
-        return Err(LineFault { column });
-    }
-    if line.len() > LONGEST_LINE {
-        return Err(LineFault { column });
-    }
-    if line.len() % 2 != 0 {
+    let fits = !line.is_empty() && line.len() <= LONGEST_LINE && line.len() % 2 == 0;
+    if column.is_some() || !fits {
         return Err(LineFault { column });
     }
     Ok(())
 }
 
-fn event(closed: bool, full: usize, kind: u8, line: &[u8]) -> Result<Request, EventFault>
-    requires some { 2 ≤ length line.now }
-    requires few { length line.now ≤ 66 }
-    requires even { length line.now % 2 ≡ 0 }
+fn event(closed: bool, full: usize, kind: u8, rest: Bytes) -> Result<Request, EventFault>
     requires page { full ≤ 16384 }
-    ensures fits { FitsEvent result (length line.now) full closed }
-    ensures is { result ≡ asked closed full kind (length line.now / 2) line.now }
+    ensures fits { IfOk result (λ q. FitsRequest q full closed) }
+    ensures is { result ≡ asked closed full kind rest }
 {
-    let size = line.len() / 2;
-    let over = (kind == 6) & (full + (size - 1) > LONGEST_PAGE);
-    if over {
-        return Err(EventFault::PageTooLong);
-    }
-    match (kind, size) {
-        (0, 2) => Ok(Request::Single(Call::Command(byte_at(line, 1)))),
-        (1, 2) => Ok(Request::Single(Call::Parameter(byte_at(line, 1)))),
-        (2, 1) => Ok(Request::Single(Call::Status)),
-        (3, 1) => Ok(Request::Single(Call::Read)),
-        (4, 1) => Ok(Request::Single(Call::Stroke)),
-        (5, 3) => Ok(Request::Clocks(byte_at(line, 1) as u16 * 256 + byte_at(line, 2) as u16)),
-        (6, 2..=33) if !closed => Ok(Request::Page((size - 1) as u8)),
+    match (kind, rest.as_slice()) {
+        (6, page) if full + page.len() > LONGEST_PAGE => Err(EventFault::PageTooLong),
+        (0, [command]) => Ok(Request::Single(Call::Command(*command))),
+        (1, [parameter]) => Ok(Request::Single(Call::Parameter(*parameter))),
+        (2, []) => Ok(Request::Single(Call::Status)),
+        (3, []) => Ok(Request::Single(Call::Read)),
+        (4, []) => Ok(Request::Single(Call::Stroke)),
+        (5, [high, low]) => Ok(Request::Clocks(u16::from_be_bytes([*high, *low]))),
+        (6, [_, ..]) if !closed => Ok(Request::Page(rest)),
         _ => Err(EventFault::Malformed),
     }
 }
 
 // The line layer, and behind it the event layer.
+#[tactic(auto, using(crate::proofs::Joins::sound_good))]
 pub(crate) fn read_line(closed: bool, full: usize, line: &[u8]) -> Result<Request, Fault>
     requires page { full ≤ 16384 }
-    ensures fits { Fits result (length line.now) full closed }
+    ensures fits { IfOk result (λ q. FitsRequest q full closed) }
     ensures is { result ≡ requested closed full line.now }
 {
     check(line)?;
-    let request = event(closed, full, byte_at(line, 0), line)?;
-    Ok(request)
+    let (first, others) = line.split_at(2);
+    let kind = nibble::byte(first[0], first[1]).unwrap();
+    Ok(event(closed, full, kind, Bytes::read(others))?)
 }

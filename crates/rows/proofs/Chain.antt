@@ -1,5 +1,6 @@
 -- Rows of a page, one below another, as a row buffer reads them.
 use Rattle.std.proofs.Common.{◌≡◌, ℕ, zero, suc, ◌+◌, Bool, true, false, ◌&&◌, ◌||◌, List, [], ◌∷◌, ◌++◌, take, drop, Some, None, sym, refl, ap, ◌∙◌, ⊎_elim, append-nil, arith}
+use Rattle.std.proofs.Math.Seq.{take-add}
 use Rattle.std.proofs.lemmas.Bool.{cases_Bool, cond-true, cond-false}
 use Rattle.video.specs.Composition.{Shape}
 use Rattle.rows.specs.declared.kinds.Position.{Position}
@@ -10,7 +11,7 @@ use Rattle.rows.specs.Shows.{effective, fields, field_behind, cell}
 use Rattle.video.specs.Fields.{no_field}
 use Rattle.video.specs.declared.field.Field.{Field}
 use Rattle.rows.specs.declared.kinds.Position.TheVariants.{Letter, Attribute, Pair, Graphic, Control, Unused}
-use Rattle.rows.proofs.Basics.{or_false}
+use Rattle.std.proofs.Math.Bool.{or-false}
 use Rattle.rows.specs.Buffer.{Shown, Reading, fresh, reads, puts, full, cell_of}
 use Rattle.rows.specs.Page.{blank, idle_below, taking_at, row, row_field, effects, screen_over, row_cell, window, windows}
 use Rattle.rows.specs.Stands.{Stands, Columns}
@@ -53,7 +54,7 @@ idle_step c n page j place idle over s h i =
         whole = rw e h.whole;
         stop = rw e h.stop;
         field = rw e (h.field ∙ ap (field_behind no_field) (sym (append-nil (effects c n page j))));
-        below = rw e (h.below ∙ sym (or_false (screen_over c n page j)));
+        below = rw e (h.below ∙ sym (or-false (screen_over c n page j)));
       },
       λ p. rw (e, h.below) refl,
       rw e (sym h.at),
@@ -179,15 +180,6 @@ pub at_top : (c : Shape) (n : ℕ) (page : List ℕ) (s : Shown) → s.field ≡
 unfolding row effects screen_over
 at_top c n page s f b = record { at = refl; whole = refl; stop = refl; field = f; below = b }
 
-take_nil : (k : ℕ) → take {A = ℕ} k [] ≡ []
-take_nil zero = refl
-take_nil (suc k) = refl
-
-take_more : (a b : ℕ) (xs : List ℕ) → take (a + b) xs ≡ take a xs ++ take b (drop a xs)
-take_more zero b xs = let z : 0 + b ≡ b = omega arith in rw z refl
-take_more (suc a) b [] = take_nil (suc a + b) ∙ sym (take_nil b)
-take_more (suc a) b (x ∷ xs) = let z : suc a + b ≡ suc (a + b) = omega arith in rw z (ap (λ (l : List ℕ). x ∷ l) (take_more a b xs))
-
 pub place_next : (c : Shape) (n : ℕ) (page : List ℕ) (j : ℕ) → (row c n page (suc j)).place ≡ (row c n page j).place + (row c n page j).taken
 unfolding taking_at
 place_next c n page j =
@@ -207,4 +199,4 @@ end_to_end c n page zero = sym (ap (λ (k : ℕ). take k page) (row_zero c n pag
 end_to_end c n page (suc j) =
     ap (λ (l : List ℕ). l ++ window c n page (suc j)) (end_to_end c n page j)
     ∙ ap (λ (k : ℕ). take k page ++ window c n page (suc j)) (sym (place_next c n page j))
-    ∙ sym (take_more (row c n page (suc j)).place (row c n page (suc j)).taken page)
+    ∙ sym (take-add (row c n page (suc j)).place (row c n page (suc j)).taken page)

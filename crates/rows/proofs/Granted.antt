@@ -1,5 +1,7 @@
 -- What a window and a still of a row that was found have.
 use Rattle.std.proofs.Common.{◌≡◌, ℕ, zero, suc, ◌+◌, ◌-◌, ◌*◌, ◌<◌, ◌≤◌, Bool, true, false, ◌||◌, ltb, leb, List, [], ◌∷◌, ◌++◌, length, get_or, take, drop, Option, sym, refl, ap, ◌∙◌, subst, ⊎_elim, append-nil, arith, length-drop}
+use Rattle.std.proofs.Math.Seq.{take-nil, length-take-le}
+use Rattle.std.proofs.lemmas.List.{take-append-drop}
 use Rattle.std.proofs.lemmas.Bool.{cases_Bool, and_parts}
 use Rattle.std.proofs.lemmas.Bool.Decides.{nat_tests}
 use Rattle.video.specs.Composition.{Shape, width, line_count}
@@ -17,11 +19,6 @@ use Rattle.rows.specs.Laws.{EmptyRows, Windowed, AheadOnly, OwnOnly, BlankDark, 
 use Rattle.rows.proofs.Chain.{idle_row, taking_row, end_to_end, place_next}
 use Rattle.rows.proofs.Prefix.{same, closed, same_picture}
 
-take_all_of : (k : ℕ) (xs : List ℕ) → k ≤ length xs → length (take k xs) ≡ k
-take_all_of zero xs h = refl
-take_all_of (suc k) [] h = absurd (omega arith)
-take_all_of (suc k) (x ∷ xs) h = let i = take_all_of k xs (omega arith) in omega arith
-
 -- rows that take nothing
 pub empty_rows : (c : Shape) (n : ℕ) (page : List ℕ) → EmptyRows c n page
 unfolding window
@@ -37,7 +34,7 @@ windowed c n page j place b p e w f =
     let at : (row c n page j).place ≡ place = ap (λ (i : ℕ). (row c n page i).place) (sym z) ∙ f.at in
     let many : (row c n page j).taken ≡ b.take.taken = ap (λ (i : ℕ). (row c n page i).taken) (sym z) ∙ f.taken in
     let d = length-drop place page in
-    let l : length (take b.take.taken (drop place page)) ≡ b.take.taken = take_all_of b.take.taken (drop place page) (let v = f.within in omega arith) in
+    let l : length (take b.take.taken (drop place page)) ≡ b.take.taken = length-take-le b.take.taken (drop place page) (let v = f.within in omega arith) in
     record {
       granted = e ∙ (rw w₂ refl);
       begins = sym at;
@@ -70,15 +67,6 @@ pub ahead_only : (c : Shape) (n : ℕ) (page : List ℕ) (q : Option (ℕ × ℕ
 ahead_only c n page q k j w pre xs ys e l line p =
     rw e (same_picture c n pre xs ys q k j line p (rw (← e) w, rw (← e) l))
 
-take_nil : {A : Type 0} (k : ℕ) → take {A = A} k [] ≡ []
-take_nil zero = refl
-take_nil (suc k) = refl
-
-split : (k : ℕ) (xs : List ℕ) → take k xs ++ drop k xs ≡ xs
-split zero xs = refl
-split (suc k) [] = refl
-split (suc k) (x ∷ xs) = ap (λ (l : List ℕ). x ∷ l) (split k xs)
-
 -- a row's positions are those of its own bytes
 own_taking : (c : Shape) (n : ℕ) (page : List ℕ) (above : Bool) (from : ℕ) → (taking_at c n page above from).whole ≡ true
     → (taking_at c n page above from).positions ≡ row_positions c.f c.h (take (taking_at c n page above from).taken (drop from page))
@@ -91,15 +79,15 @@ own_taking c n page above from w =
     let cl : closed c.h ps ≡ true = (and_parts (closed c.h ps) (leb m (length bs)) en).0 in
     let le : leb m (length bs) ≡ true = (and_parts (closed c.h ps) (leb m (length bs)) en).1 in
     let fits : m ≤ length bs = grind (arith, nat_tests) in
-    let e : take m bs ++ drop m bs ≡ bs = split m bs in
+    let e : take m bs ++ drop m bs ≡ bs = take-append-drop m bs in
     let cl₂ : closed c.h (row_positions c.f c.h (take m bs ++ drop m bs)) ≡ true = rw e cl in
-    let l : length (take m bs) ≡ m = take_all_of m bs fits in
+    let l : length (take m bs) ≡ m = length-take-le m bs fits in
     let s₂ : size (row_positions c.f c.h (take m bs ++ drop m bs)) ≤ length (take m bs) = rw (e, l) (omega arith) in
     let g : row_positions c.f c.h (take m bs ++ []) ≡ row_positions c.f c.h (take m bs ++ drop m bs) = same c.f (take m bs) (drop m bs) [] c.h cl₂ s₂ in
     sym (ap (row_positions c.f c.h) (sym (append-nil (take m bs))) ∙ g ∙ ap (row_positions c.f c.h) e)
 
 no_bytes : (f : Bool) (h : ℕ) → row_positions f h [] ≡ []
-no_bytes f h = ap (upto stops) (take_nil h)
+no_bytes f h = ap (upto stops) (take-nil h)
 
 own_positions : (c : Shape) (n : ℕ) (page : List ℕ) (j : ℕ) → (row c n page (suc j)).whole ≡ true → (row c n page (suc j)).positions ≡ row_positions c.f c.h (window c n page (suc j))
 unfolding window

@@ -4,6 +4,7 @@ pub mod Shows
 pub mod Columns
 pub mod Onward
 pub mod Writes
+pub mod Made
 pub mod Steps
 pub mod Chain
 pub mod Rows

@@ -13,7 +13,8 @@ use Rattle.video.specs.declared.field.Field.{Field}
 use Rattle.video.specs.declared.cell.Cell.{Cell}
 use Rattle.video.specs.declared.cell.Cell.TheVariants.{Dark, Text, Symbol}
 use Rattle.rows.specs.Shows.{effective, field_behind, characters, alike, memory, shown_at, cell}
-use Rattle.rows.proofs.Basics.{or_false, or_move}
+use Rattle.std.proofs.Math.Bool.{or-false}
+use Rattle.rows.proofs.Basics.{or_move}
 use Rattle.rows.specs.Buffer.{Shown, put, puts, cell_of}
 
 -- the columns that positions give: f the field before them, k field characters before them
@@ -141,7 +142,7 @@ field_is s (Unused ∷ ps) h = field_is (put s Unused) ps h
 
 pub below_is : (s : Shown) (ps : List Position) → (puts s ps).below ≡ (s.below || some ends_screen ps)
 unfolding puts put
-below_is s [] = sym (or_false s.below)
+below_is s [] = sym (or-false s.below)
 below_is s (Letter c ∷ ps) = below_is (put s (Letter c)) ps
 below_is s (Attribute a ∷ ps) = below_is (put s (Attribute a)) ps
 below_is s (Pair a c ∷ ps) = below_is (put s (Pair a c)) ps

@@ -11,7 +11,8 @@ use Rattle.video.specs.declared.field.Field.{Field}
 use Rattle.rows.specs.Lists.{some, upto}
 use Rattle.rows.specs.Positions.{field_code, read, positions, stops, stops_all, width}
 use Rattle.rows.specs.Takes.{size, dropped}
-use Rattle.rows.proofs.Basics.{or_false, or_assoc, leb_suc, ltb_suc, not_zero, width_read, positions_one}
+use Rattle.std.proofs.Math.Bool.{or-false, or_assoc}
+use Rattle.rows.proofs.Basics.{leb_suc, ltb_suc, not_zero, width_read, positions_one}
 use Rattle.rows.specs.Buffer.{Shown, Buffer, Reading, full, took, put, puts, eat, ending, reads}
 
 -- what a row gives that took `taken` bytes, where t tells that they suffice
@@ -82,7 +83,7 @@ eats_plain f n m k o s b h e = let z : suc m - 1 ≡ m = omega arith in rw (h, e
 eats_code : (f : Bool) (n m k : ℕ) (o : Bool) (s : Shown) (b : ℕ) → (not f && field_code b) ≡ true
     → eat f n (ready (suc m) k o s) b ≡ record { take = record { phase = Second (field_of b); room = suc m; taken = suc k; over = o }; show = s }
 unfolding eat took ready puts
-eats_code f n m k o s b h = let z : suc m - 0 ≡ suc m = omega arith in rw (h, z, or_false o) refl
+eats_code f n m k o s b h = let z : suc m - 0 ≡ suc m = omega arith in rw (h, z, or-false o) refl
 
 eats_second : (f : Bool) (n m k : ℕ) (o : Bool) (s : Shown) (a : Field) (b : ℕ)
     → eat f n (record { take = record { phase = Second a; room = suc m; taken = k; over = o }; show = s }) b ≡ ready m (suc k) (o || false) (put s (Pair a (b % 128)))
@@ -100,7 +101,7 @@ eats_extra : (f : Bool) (n m k : ℕ) (o : Bool) (s : Shown) (b : ℕ)
     → eat f n (record { take = record { phase = Extra; room = m; taken = k; over = o }; show = s }) b
     ≡ record { take = record { phase = Done; room = m; taken = suc k; over = o }; show = s }
 unfolding eat took ready puts
-eats_extra f n m k o s b = let z : m - 0 ≡ m = omega arith in rw (z, or_false o) refl
+eats_extra f n m k o s b = let z : m - 0 ≡ m = omega arith in rw (z, or-false o) refl
 
 -- a row that is cut by the stop code x
 outcome_stop : (n m k d a : ℕ) (o : Bool) (s : Shown) (x : Position) (b : ℕ) (bs : List ℕ) → stops x ≡ true → width x ≡ 1 → dropped n (suc m) k (x ∷ []) ≡ d → a ≡ d + suc k
@@ -203,7 +204,7 @@ unfolding full ready outcome mk puts
 taking f n bs zero k o s =
     let t : leb 0 (length bs) ≡ true = grind (arith, nat_tests) in
     let z : k + 0 ≡ k = omega arith in
-    reads_full f n _ bs refl ∙ sym (rw (t, or_false o, z) refl)
+    reads_full f n _ bs refl ∙ sym (rw (t, or-false o, z) refl)
 taking f n [] (suc m) k o s =
     let t : (leb (suc m) 0 || false) ≡ false = grind (arith, nat_tests) in
     reads_none f n _ (not_zero m) ∙ sym (rw t refl)

@@ -131,9 +131,13 @@ pub record Buffer : Type 0 where
 unfoldable pub eat : (f : Bool) (n : ℕ) → Buffer → ℕ → Buffer
 eat f n b x = record { take = took f n b.take x; show = puts b.show (fills f b.take.phase x) }
 
+-- a row with no position yet, where a field is in force, below an F2 or F3 or not
+abbrev pub empty_row : Field → (hidden : Bool) → Shown
+empty_row f hidden = record { columns = []; ring = replicate 16 0; pairs = 0; field = f; ended = false; below = hidden; hidden = hidden }
+
 -- what stands above the first row
 abbrev pub nothing : Shown
-nothing = record { columns = []; ring = replicate 16 0; pairs = 0; field = no_field; ended = false; below = false; hidden = false }
+nothing = empty_row no_field false
 
 abbrev pub top : Buffer
 top = record { take = record { phase = Done; room = 0; taken = 0; over = false }; show = nothing }
@@ -143,7 +147,7 @@ unfoldable pub fresh : (h : ℕ) (idle over : Bool) (above : Shown) → Buffer
 fresh h idle over above =
     record {
       take = record { phase = cond (idle || over) Done Ready; room = h; taken = 0; over = over };
-      show = record { columns = []; ring = replicate 16 0; pairs = 0; field = above.field; ended = false; below = above.below; hidden = above.below };
+      show = empty_row above.field above.below;
     }
 
 -- a row read to its end: how many bytes it took, what it leaves, the bytes behind it; none where the bytes do not suffice

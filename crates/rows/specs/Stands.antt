@@ -23,19 +23,17 @@ Columns c n page j s = (p : ℕ) → column_cell s p ≡ row_cell c n page (suc 
 abbrev pub Behind : Shape → (n : ℕ) → List ℕ → (j place : ℕ) → RowBuffer → Type 0
 Behind c n page j at b = Stands c n page j at b.take.over (shown_of b.show)
 
--- row j + 1 was read from `at` on; none where the page does not suffice
-abbrev pub Next : Shape → (n : ℕ) → List ℕ → (j at : ℕ) → Option RowBuffer → Type 0
-Next c n page j at None = (row c n page (suc j)).whole ≡ false
-Next c n page j at (Some b) =
-    Behind c n page (suc j) (at + b.take.taken) b × Columns c n page j (shown_of b.show)
-    × ((row c n page (suc j)).place ≡ at) × ((row c n page (suc j)).taken ≡ b.take.taken)
-
 -- row j + 1 was found
 pub record Finds (c : Shape) (n : ℕ) (page : List ℕ) (j place : ℕ) (b : RowBuffer) : Type 0 where
   pub at : (row c n page (suc j)).place ≡ place
   pub taken : (row c n page (suc j)).taken ≡ b.take.taken
   pub within : place + b.take.taken ≤ length page
   pub columns : Columns c n page j (shown_of b.show)
+
+-- row j + 1 was read below row j; none where the page does not suffice
+abbrev pub Next : Shape → (n : ℕ) → List ℕ → (j : ℕ) → Option Found → Type 0
+Next c n page j None = (row c n page (suc j)).whole ≡ false
+Next c n page j (Some x) = Behind c n page (suc j) (x.place + x.row.take.taken) x.row × Finds c n page j x.place x.row
 
 abbrev pub Located : Shape → (n : ℕ) → List ℕ → (j : ℕ) → Option Found → Type 0
 Located c n page j None = (row c n page (suc j)).whole ≡ false

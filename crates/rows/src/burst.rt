@@ -11,6 +11,7 @@ pub enum BurstSize {
 }
 
 impl BurstSize {
+    // By name and no `From`, since a size has a code beside its count.
     pub fn bytes(self) -> u8
         ensures is { result ≡ burst_bytes self }
         ensures some { 1 ≤ result }

@@ -3,6 +3,7 @@
 
 pub mod buffer;
 pub mod burst;
+pub mod drawing;
 pub mod found;
 pub mod kinds;
 pub mod looks;

@@ -7,7 +7,8 @@ ghost use Rattle.rows.specs.Refusals.{row_refusal, window_refusal, still_refusal
 ghost use Rattle.rows.specs.Laws.{Windowed, Still};
 
 use crate::burst::BurstSize;
-use crate::page::{blank, locate, write_lines};
+use crate::drawing::Drawing;
+use crate::page::blank;
 use refusal::Refusal;
 use video::composition::Composition;
 
@@ -47,13 +48,7 @@ impl<'a> PageReader<'a> {
         if self.page.len() > 16384 {
             return Err(Refusal::PageTooLong);
         }
-        if row == 0 {
-            return Err(Refusal::NoSuchRow);
-        }
-        if row > self.composition.rows {
-            return Err(Refusal::NoSuchRow);
-        }
-        if blank(&self.composition, row) {
+        if row == 0 || row > self.composition.rows || blank(&self.composition, row) {
             return Err(Refusal::NoSuchRow);
         }
         Ok(())
@@ -66,17 +61,15 @@ impl<'a> PageReader<'a> {
             (λ e. window_refusal (shape_of self.now.composition) (burst_bytes self.now.burst) self.now.page.now row ≡ Some e) }
     {
         self.check(row)?;
-        match locate(&self.composition, self.burst.bytes(), self.page, row - 1) {
-            None => Err(Refusal::PageEnds),
-            Some(found) => {
-                let place = found.place;
-                let end = place + found.row.take.taken as usize;
-                Ok(RowWindow {
-                    bytes: &self.page[place..end],
-                    place,
-                })
-            }
-        }
+        let Some(found) = self.locate(row) else {
+            return Err(Refusal::PageEnds);
+        };
+        let place = found.place;
+        let end = found.end();
+        Ok(RowWindow {
+            bytes: &self.page[place..end],
+            place,
+        })
     }
 
     // The page's picture of a row, into the first words of `out`.
@@ -93,18 +86,23 @@ impl<'a> PageReader<'a> {
             × (out.new ≡ out.old)) }
     {
         self.check(row)?;
-        if out.len()
-            < self.composition.lines as usize
-                * (self.composition.columns + self.composition.retrace) as usize
-        {
+        let width = usize::from(self.composition.width());
+        if out.len() < usize::from(self.composition.lines) * width {
             return Err(Refusal::BufferTooSmall);
         }
-        match locate(&self.composition, self.burst.bytes(), self.page, row - 1) {
-            None => Err(Refusal::PageEnds),
-            Some(found) => {
-                write_lines(&self.composition, cursor, blink, &found, row - 1, out);
-                Ok(())
-            }
-        }
+        let Some(found) = self.locate(row) else {
+            return Err(Refusal::PageEnds);
+        };
+        let drawing = Drawing {
+            composition: self.composition,
+            cursor,
+            blink,
+            found: &found,
+            above: row - 1,
+        };
+        drawing.lines(out);
+        Ok(())
     }
 }
+
+pub mod rows;

@@ -1,12 +1,11 @@
 // What a row shows, position by position.
 ghost use Rattle.std.specs.Prelude.{◌≡◌, ℕ, ◌+◌, ◌<◌, ◌≤◌, if◌then◌else◌};
 ghost use Rattle.video.specs.declared.cell.Cell.TheVariants.{Dark};
-ghost use Rattle.rows.specs.Positions.{ends, ends_screen};
-ghost use Rattle.rows.specs.Buffer.{turned, in_force, column, put, resolved, column_cell};
+ghost use Rattle.rows.specs.Buffer.{turned, in_force, column, put, empty_row, resolved, column_cell};
 ghost use Rattle.rows.specs.Model.{shown_of};
 ghost use Rattle.rows.specs.declared.kinds.Column.TheVariants.{Fixed};
 
-use crate::kinds::{Column, Position, Special};
+use crate::kinds::{Column, Position};
 use crate::state::Showing;
 use video::cell::Cell;
 use video::field::Field;
@@ -34,24 +33,6 @@ fn column(ended: bool, field: Field, k: u8, p: Position) -> Column
     }
 }
 
-fn ends(p: Position) -> bool
-    ensures { result ≡ ends p }
-{
-    match p {
-        Position::Control(_) => true,
-        _ => false,
-    }
-}
-
-fn ends_screen(p: Position) -> bool
-    ensures { result ≡ ends_screen p }
-{
-    match p {
-        Position::Control(Special::EndScreen | Special::StopScreen) => true,
-        _ => false,
-    }
-}
-
 fn resolved(ring: &[u8; 16], column: Column) -> Cell
     ensures { result ≡ resolved ring.now column }
 {
@@ -62,6 +43,22 @@ fn resolved(ring: &[u8; 16], column: Column) -> Cell
 }
 
 impl Showing {
+    // A row that shows nothing yet, in a field that is in force, and hidden below an F2 or F3.
+    pub(crate) fn new(field: Field, hidden: bool) -> Showing
+        ensures { shown_of result ≡ empty_row field hidden }
+    {
+        Showing {
+            columns: [Column::Fixed(Cell::Dark); 80],
+            len: 0,
+            ring: [0; 16],
+            pairs: 0,
+            field,
+            ended: false,
+            below: hidden,
+            hidden,
+        }
+    }
+
     // One position more.
     pub(crate) fn put(&mut self, p: Position)
         requires { self.old.len < 80 }
@@ -71,8 +68,8 @@ impl Showing {
         self.columns[self.len as usize] = column(self.ended, self.field, self.pairs, p);
         self.len += 1;
         self.field = in_force(self.ended, self.field, p);
-        self.ended = ends(p) | self.ended;
-        self.below = ends_screen(p) | self.below;
+        self.ended |= p.ends();
+        self.below |= p.ends_screen();
         if let Position::Pair(_, c) = p {
             self.ring[(self.pairs % 16) as usize] = c;
             self.pairs += 1;

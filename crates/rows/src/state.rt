@@ -21,6 +21,7 @@ pub struct Taking {
 // What a row will show.
 #[derive(Clone, Copy)]
 pub struct Showing {
+    // with lengths beside them, since the console is copied as one value and an ArrayVec is not Copy
     pub columns: [Column; 80],
     pub len: u8,
     // the field character memory, and how many characters went into it

@@ -1,14 +1,16 @@
 // What a row takes, byte by byte.
 ghost use Rattle.std.specs.Prelude.{◌≡◌, ℕ, ◌+◌, ◌≤◌, true, false, length};
-ghost use Rattle.rows.specs.Positions.{read, stops_all};
-ghost use Rattle.rows.specs.Buffer.{done, full, phase_after, fills, took};
+ghost use Rattle.rows.specs.Positions.{read};
+ghost use Rattle.rows.specs.Buffer.{full, phase_after, fills, took};
+ghost use Rattle.rows.specs.Takes.{burst_bytes};
 ghost use Rattle.rows.specs.Model.{taken_of, listed};
 
+use crate::burst::BurstSize;
 use crate::kinds::{Phase, Position, Special};
 use crate::state::Taking;
 use video::field::Field;
 
-// A byte that fills a position alone.
+// A byte that fills a position alone; no `From`, since a transparent field code does not.
 fn read(b: u8) -> Position
     ensures { result ≡ read b }
 {
@@ -21,15 +23,6 @@ fn read(b: u8) -> Position
         0xF2 => Position::Control(Special::EndScreen),
         0xF3 => Position::Control(Special::StopScreen),
         _ => Position::Unused,
-    }
-}
-
-fn is_done(phase: Phase) -> bool
-    ensures { result ≡ done phase }
-{
-    match phase {
-        Phase::Done => true,
-        _ => false,
     }
 }
 
@@ -59,49 +52,30 @@ fn filled(opaque: bool, phase: Phase, b: u8) -> Option<Position>
     }
 }
 
-fn stops_all(p: Position) -> bool
-    ensures { result ≡ stops_all p }
-{
-    match p {
-        Position::Control(Special::StopScreen) => true,
-        _ => false,
-    }
-}
-
 impl Taking {
+    #[tactic(auto, unfolding(crate::specs::Buffer::full))]
     pub fn full(&self) -> bool
         ensures { result ≡ full (taken_of self.now) }
     {
-        is_done(self.phase) | (self.room == 0)
+        self.phase.is_done() | (self.room == 0)
     }
 
-    // One byte more, by bursts of n: the position that it fills, if it does.
-    pub(crate) fn eat(&mut self, opaque: bool, n: u8, b: u8) -> Option<Position>
-        requires { (1 ≤ n) × (full (taken_of self.old) ≡ false) }
-        ensures state { taken_of self.new ≡ took opaque n (taken_of self.old) b }
+    // One byte more: the position that it fills, if it does.
+    pub(crate) fn eat(&mut self, opaque: bool, burst: BurstSize, b: u8) -> Option<Position>
+        requires { full (taken_of self.old) ≡ false }
+        ensures state { taken_of self.new ≡ took opaque (burst_bytes burst) (taken_of self.old) b }
         ensures fills { listed result ≡ fills opaque self.old.phase b }
         ensures room { self.new.room + length (listed result) ≡ self.old.room }
     {
         let taken = self.taken + 1;
-        let phase = next_phase(opaque, taken % n == 0, self.room <= 1, self.phase, b);
+        let last = taken % burst.bytes() == 0;
         let came = filled(opaque, self.phase, b);
-        match came {
-            None => *self = Taking {
-                phase,
-                room: self.room,
-                taken,
-                over: self.over,
-            },
-            Some(p) => {
-                let over = self.over | stops_all(p);
-                *self = Taking {
-                    phase,
-                    room: self.room - 1,
-                    taken,
-                    over,
-                };
-            }
-        }
+        *self = Taking {
+            phase: next_phase(opaque, last, self.room <= 1, self.phase, b),
+            room: self.room - u8::from(came.is_some()),
+            taken,
+            over: self.over | came.is_some_and(Position::stops_all),
+        };
         came
     }
 }

@@ -1,4 +1,4 @@
-// Lists the rows of a page of screen bytes as the tube would show them.
+// Lists the rows of a page of screen bytes as the tube would show them. The program `held` is this one with another example.
 #![tactic(auto)]
 
 use std::process::ExitCode;

@@ -10,7 +10,7 @@ use std::io::{Read, Write};
 fn run(rt: &HostRuntime) -> anyhow::Result<()> {
     let mut text = String::new(rt.alloc());
     let _ = rt.stdin().read_to_string(&mut text)?;
-    let mut session = Session::new(rt.alloc())?;
+    let mut session = Session::new(rt.alloc());
     let mut out = rt.stdout();
     for line in text.lines() {
         session.request(line)?;

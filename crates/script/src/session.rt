@@ -5,12 +5,12 @@ use console::state::Console;
 use frame::call::{Answer, Call};
 use listing::row::word_line;
 use refusal::Refusal;
-use source::{FreeBus, Span, SpanBus, TurnBus};
+use source::{FreeBus, Span};
 use std::alloc::Global;
 use std::io::Write;
 
 // Clocks played by one call.
-const PART: u32 = 4096;
+const PART: usize = 4096;
 
 #[derive(Drop)]
 pub struct Session {
@@ -18,21 +18,11 @@ pub struct Session {
     console: Console,
     page: Vec<u8>,
     bus: Bus,
-    clocks: Vec<Call>,
     out: Vec<u8>,
 }
 
-fn digit(c: u8) -> anyhow::Result<u8> {
-    match c {
-        b'0'..=b'9' => Ok(c - b'0'),
-        b'A'..=b'F' => Ok(c - b'A' + 10),
-        _ => Err(anyhow!("not a hexadecimal digit")),
-    }
-}
-
-// The byte of two digits, each below 16.
 fn joined(high: u8, low: u8) -> anyhow::Result<u8> {
-    Ok(digit(high)?.wrapping_mul(16).wrapping_add(digit(low)?))
+    nibble::byte(high, low).context("not a hexadecimal digit")
 }
 
 fn bytes(heap: Global, text: &[u8]) -> anyhow::Result<Vec<u8>> {
@@ -53,6 +43,7 @@ fn byte(text: &str) -> anyhow::Result<u8> {
     }
 }
 
+// By `split`, since `split_once` would refuse what stands behind a second `+`.
 fn span(text: &str) -> anyhow::Result<Span> {
     let mut figures = text.split('+');
     let first = figures.next().context("a span without figures")?;
@@ -64,20 +55,14 @@ fn span(text: &str) -> anyhow::Result<Span> {
 }
 
 impl Session {
-    pub fn new(heap: Global) -> anyhow::Result<Session> {
-        let mut clocks = Vec::new(heap);
-        for _ in 0..PART {
-            clocks.push(Call::Clock)?;
-        }
-        let bus = Bus::Free(FreeBus::new(heap));
-        Ok(Session {
+    pub fn new(heap: Global) -> Session {
+        Session {
             heap,
             console: Console::new(),
             page: Vec::new(heap),
-            bus,
-            clocks,
+            bus: Bus::Free(FreeBus::new(heap)),
             out: Vec::new(heap),
-        })
+        }
     }
 
     pub fn answers(&self) -> usize {
@@ -142,41 +127,31 @@ impl Session {
         self.ok()
     }
 
-    fn free(&mut self) -> anyhow::Result<()> {
-        let mut bus = FreeBus::new(self.heap);
-        match bus.make(self.heap, self.page.as_slice()) {
-            Ok(()) => {
-                self.bus = Bus::Free(bus);
+    // The bus in place of the one that stood, if it was made.
+    fn put(&mut self, made: Result<Bus, Refusal>) -> anyhow::Result<()> {
+        match made {
+            Ok(bus) => {
+                self.bus = bus;
                 self.ok()
             }
             Err(refusal) => self.refused(refusal),
         }
+    }
+
+    fn free(&mut self) -> anyhow::Result<()> {
+        let made = Bus::free(self.heap, self.page.as_slice());
+        self.put(made)
     }
 
     fn turns(&mut self, free: u8, busy: u8) -> anyhow::Result<()> {
-        let mut bus = TurnBus::new(self.heap);
-        match bus.make(self.heap, self.page.as_slice(), free, busy) {
-            Ok(()) => {
-                self.bus = Bus::Turns(bus);
-                self.ok()
-            }
-            Err(refusal) => self.refused(refusal),
-        }
+        let made = Bus::turns(self.heap, self.page.as_slice(), free, busy);
+        self.put(made)
     }
 
     fn spans(&mut self, line: &str) -> anyhow::Result<()> {
-        let mut spans = Vec::new(self.heap);
-        for text in line.split(' ').skip(1) {
-            spans.push(span(text)?)?;
-        }
-        let mut bus = SpanBus::new(self.heap);
-        match bus.make(self.heap, self.page.as_slice(), spans.as_slice()) {
-            Ok(()) => {
-                self.bus = Bus::Spans(bus);
-                self.ok()
-            }
-            Err(refusal) => self.refused(refusal),
-        }
+        let spans: Vec<Span> = line.split(' ').skip(1).map(span).try_collect(self.heap)?;
+        let made = Bus::spans(self.heap, self.page.as_slice(), &spans);
+        self.put(made)
     }
 
     fn print(&mut self, answer: Answer) -> anyhow::Result<()> {
@@ -194,7 +169,7 @@ impl Session {
         }
     }
 
-    // Whether the last answer was a refusal.
+    // Whether an answer was a refusal; what was answered behind it is not told.
     fn play(&mut self, calls: &[Call]) -> anyhow::Result<bool> {
         let mut answers = Vec::new(self.heap);
         if let Err(refusal) = self.bus.play(&mut self.console, calls, &mut answers) {
@@ -203,7 +178,7 @@ impl Session {
         }
         for answer in answers.iter() {
             self.print(*answer)?;
-            if let Answer::Refused(_) = answer {
+            if matches!(answer, Answer::Refused(_)) {
                 return Ok(true);
             }
         }
@@ -217,18 +192,14 @@ impl Session {
 
     // A refused clock ends the request.
     fn clocks(&mut self, count: u32) -> anyhow::Result<()> {
-        let all = Vec::from_slice(self.heap, self.clocks.as_slice())?;
-        let mut left = count as usize;
-        for _ in 0..count {
-            let part = left.min(all.len());
-            if part == 0 {
-                break;
+        let clocks = Vec::from_elem(self.heap, Call::Clock, PART)?;
+        let count = count as usize;
+        for _ in 0..count / PART {
+            if self.play(&clocks)? {
+                return Ok(());
             }
-            if self.play(&all[0..part])? {
-                break;
-            }
-            left -= part;
         }
+        let _ = self.play(&clocks[..count % PART])?;
         Ok(())
     }
 

@@ -1,16 +1,19 @@
 -- The lines of rows.
-use Rattle.std.proofs.Common.{◌≡◌, ℕ, suc, ◌+◌, ◌≤◌, Bool, true, false, cond, ltb, List, ◌++◌, length, Some, None, Option, refl, ap, ◌∙◌, append_assoc, add-one, arith, length-drop, length-take}
+use Rattle.std.proofs.Common.{◌≡◌, ℕ, zero, suc, ◌+◌, ◌-◌, ◌<◌, ◌≤◌, Bool, true, false, cond, ltb, List, ◌++◌, length, Some, None, Option, refl, ap, sym, ◌∙◌, inl, inr, ⊎_elim, append_assoc, arith, length-drop, length-take}
 use Rattle.std.proofs.lemmas.Bool.Decides.{nat_tests}
 use Rattle.refusal.specs.declared.Refusal.{Refusal}
-use Rattle.video.specs.Composition.{Shape}
+use Rattle.video.specs.Composition.{Shape, shape_of}
 use Rattle.rows.specs.Page.{blank, window}
 use Rattle.rows.specs.Refusals.{window_refusal}
 use Rattle.rows.specs.Laws.{Windowed}
 use Rattle.frame.specs.Ports.{State}
 use Rattle.console.specs.Answers.{WindowOf}
-use Rattle.listing.specs.Words.{word_lines}
+use Rattle.console.specs.Model.{state_of}
 use Rattle.layout.specs.Lines.{under, still_heading, still_figures, pictured}
-use Rattle.sheet.specs.Stills.{bytes_of, still_words, still_margin, row_rest, ListedRow, counted_row, tally, with_row, with_rows, NextRow, with_words}
+use Rattle.sheet.specs.Screens.{Composed, row_refused, StoppedRow, Stopped}
+use Rattle.sheet.specs.Stills.{bytes_of, still_words, still_margin, row_rest, ListedRow, counted, counted_row, tally, with_row, with_rows, NextRow, with_row_words, with_words}
+use Rattle.sheet.specs.declared.screen.Screen.{Screen}
+use Rattle.sheet.specs.declared.stop.Stop.{Stop}
 use Rattle.sheet.specs.declared.tally.Tally.{Tally}
 
 not_too_long : (b : Bool) (r : Refusal) (e : Option Refusal) → cond b (Some r) e ≡ None → b ≡ false
@@ -30,42 +33,61 @@ pub behind_heading : (o u f t : List ℕ) {o₁ o₂ : List ℕ} → o₁ ≡ o 
 behind_heading o u f t p q =
     q ∙ (ap (λ (x : List ℕ). x ++ t) p ∙ (append_assoc o (u ++ f) t ∙ ap (λ (x : List ℕ). o ++ x) (append_assoc u f t)))
 
-pub row_listed : (c : Shape) (s : State) (page : List ℕ) (j place : ℕ) (part still o o₁ o₂ : List ℕ) → s.shape ≡ Some c → WindowOf s page j place part
-    → still ≡ still_words c s page j → o₁ ≡ o ++ (under still_heading o ++ still_figures j place (length part))
-    → o₂ ≡ o₁ ++ row_rest (length part) (pictured still_margin c still) → ListedRow c s page j (length part) o o₂
-row_listed c s page j place part still o o₁ o₂ e w t p q =
-    let v : Windowed c s.control.bursts.n page j place part = rw e at w in
-    let k : length part ≡ length (bytes_of c s page j) = ap length v.takes in
+-- a console with a composition answers by it
+pub windowed : (c : Shape) (s : State) (page : List ℕ) (j place : ℕ) (part : List ℕ) → s.shape ≡ Some c → WindowOf s page j place part
+    → Windowed c s.control.bursts.n page j place part
+windowed c s page j place part e w = rw e at w
+
+pub row_listed : (x : Screen) (page : List ℕ) (j place : ℕ) (part still o o₁ o₂ : List ℕ) → Composed x → WindowOf (state_of x.console) page j place part
+    → still ≡ still_words x page j → o₁ ≡ o ++ (under still_heading o ++ still_figures j place (length part))
+    → o₂ ≡ o₁ ++ row_rest (length part) (pictured still_margin (shape_of x.composition) still) → ListedRow x page j (length part) o o₂
+row_listed x page j place part still o o₁ o₂ e w t p q =
+    let v = windowed (shape_of x.composition) (state_of x.console) page j place part e w in
+    let k : length part ≡ length (bytes_of x page j) = ap length v.takes in
     record {
       taken = k;
-      few = let z = short_window c s.control.bursts.n page j (short_page c s.control.bursts.n page j v.granted) in omega arith;
+      few =
+          let z = short_window (shape_of x.composition) (state_of x.console).control.bursts.n page j (short_page (shape_of x.composition) (state_of x.console).control.bursts.n page j v.granted) in
+          omega arith;
       lines =
-          behind_heading o (under still_heading o) (still_figures j place (length part)) (row_rest (length part) (pictured still_margin c still)) p q
-          ∙ ap (λ (x : List ℕ). o ++ (under still_heading o ++ x)) (rw (v.begins, k, t) refl);
+          behind_heading o (under still_heading o) (still_figures j place (length part)) (row_rest (length part) (pictured still_margin (shape_of x.composition) still)) p q
+          ∙ ap (λ (t : List ℕ). o ++ (under still_heading o ++ t)) (rw (v.begins, k, t) refl);
     }
 
--- rows 1 to i + 1, behind rows 1 to i
-pub rows_more : (c : Shape) (s : State) (page out o o₂ : List ℕ) (i : ℕ) (t t₂ : Tally) → t ≡ tally c s page i → o ≡ with_rows c s page out i
-    → NextRow c s page (i + 1) t t₂ o o₂ → (t₂ ≡ tally c s page (i + 1)) × (o₂ ≡ with_rows c s page out (i + 1))
+-- a row left blank adds nothing to a tally
+counted_any : (b : Bool) (t : Tally) (m : ℕ) → counted t (cond b 0 m) ≡ cond b t (counted t m)
+counted_any true t m = let z : t.used + 0 ≡ t.used = omega arith in let y : t.shown + 0 ≡ t.shown = omega arith in rw (z, y) refl
+counted_any false t m = refl
+
+-- rows 1 to j, behind the rows above row j
+pub rows_more : (x : Screen) (page out o o₂ : List ℕ) (j n : ℕ) (t : Tally) → 0 < j → t ≡ tally x page (j - 1) → o ≡ with_rows x page out (j - 1)
+    → NextRow x page j t.used n o o₂ → (counted t n ≡ tally x page j) × (o₂ ≡ with_rows x page out j)
 unfolding tally with_rows
-rows_more c s page out o o₂ i t t₂ e f n =
-    let m : NextRow c s page (suc i) t t₂ o o₂ = simp add-one at n in
-    simp add-one (
-      m.counts ∙ ap (counted_row c s page (suc i)) e,
-      m.text ∙ (ap (λ (x : Tally). with_row c s page (suc i) x.used o) e ∙ ap (with_row c s page (suc i) (tally c s page i).used) f),
+rows_more x page out o o₂ zero n t h e f m = absurd (omega arith)
+rows_more x page out o o₂ (suc i) n t h e f m =
+    let d : suc i - 1 ≡ i = omega arith in (
+      ap (counted t) m.taken ∙ (counted_any (blank (shape_of x.composition) (suc i)) t (length (bytes_of x page (suc i))) ∙ ap (counted_row x page (suc i)) (e ∙ ap (tally x page) d)),
+      m.text ∙ (ap (λ (u : Tally). with_row x page (suc i) u.used o) (e ∙ ap (tally x page) d) ∙ ap (with_row x page (suc i) (tally x page i).used) (f ∙ ap (with_rows x page out) d)),
     )
 
-pub words_more : (c : Shape) (s : State) (page out o o₂ : List ℕ) (i : ℕ) → o ≡ with_words c s page out i
-    → o₂ ≡ cond (blank c (i + 1)) o (o ++ word_lines (still_words c s page (i + 1))) → o₂ ≡ with_words c s page out (i + 1)
+pub words_more : (x : Screen) (page out o o₂ : List ℕ) (j : ℕ) → 0 < j → o ≡ with_words x page out (j - 1) → o₂ ≡ with_row_words x page j o → o₂ ≡ with_words x page out j
 unfolding with_words
-words_more c s page out o o₂ i f n =
-    let m : o₂ ≡ cond (blank c (suc i)) o (o ++ word_lines (still_words c s page (suc i))) = simp add-one at n in
-    simp add-one (m ∙ ap (λ (x : List ℕ). cond (blank c (suc i)) x (x ++ word_lines (still_words c s page (suc i)))) f)
+words_more x page out o o₂ zero h f n = absurd (omega arith)
+words_more x page out o o₂ (suc i) h f n = let d : suc i - 1 ≡ i = omega arith in n ∙ ap (with_row_words x page (suc i)) (f ∙ ap (with_words x page out) d)
 
-pub rows_none : (c : Shape) (s : State) (page out : List ℕ) → (record { shown = 0; used = 0 } ≡ tally c s page 0) × (out ≡ with_rows c s page out 0)
+pub rows_none : (x : Screen) (page out : List ℕ) → (record { shown = 0; used = 0 } ≡ tally x page 0) × (out ≡ with_rows x page out 0)
 unfolding tally with_rows
-rows_none c s page out = (refl, refl)
+rows_none x page out = (refl, refl)
 
-pub words_none : (c : Shape) (s : State) (page out : List ℕ) → out ≡ with_words c s page out 0
+pub words_none : (x : Screen) (page out : List ℕ) → out ≡ with_words x page out 0
 unfolding with_words
-words_none c s page out = refl
+words_none x page out = refl
+
+-- a listing stopped at row j, behind the rows above it
+pub stopped : (x : Screen) (page : List ℕ) (above : ℕ → List ℕ) (j : ℕ) (e : Stop) (o o₂ : List ℕ) → 0 < j → j ≤ x.composition.rows → o ≡ above (j - 1)
+    → StoppedRow x page j e o o₂ → Stopped x page above e o₂
+stopped x page above zero e o o₂ l h f s = absurd (omega arith)
+stopped x page above (suc i) e o o₂ l h f s =
+    let d : suc i - 1 ≡ i = omega arith in
+    let a : i + 1 ≡ suc i = omega arith in
+    ⊎_elim (λ p. inl (i, omega arith, p.0 ∙ ap (λ (n : ℕ). Some n) (sym a), ap (row_refused x page) a ∙ p.1, p.2 ∙ (f ∙ ap above d))) inr s

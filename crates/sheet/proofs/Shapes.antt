@@ -2,7 +2,7 @@
 use Rattle.std.proofs.Common.{◌≡◌, ℕ, Bool, true, false, cond, ◌&&◌, eqb, leb, Some, None, Option, refl, ◌∙◌}
 use Rattle.video.specs.Composition.{Shape, allowed, composed}
 use Rattle.frame.specs.Ports.{State, commanded, is_command}
-use Rattle.arguments.specs.declared.figures.ResetParameters.{ResetParameters}
+use Rattle.video.specs.declared.parameters.ResetParameters.{ResetParameters}
 use Rattle.listing.specs.Firmware.{composed as console-composed, with_cursor, programmed}
 
 either : (b : Bool) (x y : State) (h : Option Shape) → x.shape ≡ h → y.shape ≡ h → (cond b x y).shape ≡ h

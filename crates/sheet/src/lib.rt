@@ -2,5 +2,6 @@
 #![tactic(auto)]
 
 pub mod screen;
+pub mod still;
 pub mod stop;
 pub mod tally;

@@ -5,35 +5,24 @@ ghost use Rattle.listing.specs.Firmware.{programmed, programming_refusal};
 ghost use Rattle.refusal.specs.declared.Refusal.TheVariants.{TooManyColumns};
 ghost use Rattle.video.specs.Composition.{allowed, composed, shape_of};
 ghost use Rattle.sheet.specs.Rasters.{row_clocks};
-ghost use Rattle.sheet.specs.Screens.{Composed};
 
-use arguments::figures::ResetParameters;
 use console::state::Console;
 use listing::firmware::programmed;
 use refusal::Refusal;
 use video::composition::Composition;
+use video::parameters::ResetParameters;
 
 #[derive(Clone, Copy)]
 pub struct Screen {
     pub console: Console,
-    // that of the console
     pub composition: Composition,
-}
-
-fn composition(parameters: ResetParameters) -> Result<Composition, Refusal>
-    ensures { MatchResult result
-        (λ c. (allowed parameters.first ≡ true) × (shape_of c ≡ composed parameters.first parameters.second parameters.third parameters.fourth))
-        (λ e. (allowed parameters.first ≡ false) × (e ≡ TooManyColumns)) }
-{
-    Composition::from_parameters(
-        parameters.first,
-        parameters.second,
-        parameters.third,
-        parameters.fourth,
-    )
+    // the composition is the console's
+    pub ghost composed: { (state_of console).shape ≡ Some (shape_of composition) },
 }
 
 impl Screen {
+    ghost use Rattle.sheet.specs.Screens.{Composed};
+
     // Reset, the cursor where there is one, and then the Start command.
     pub fn programmed(
         parameters: ResetParameters,
@@ -43,7 +32,7 @@ impl Screen {
         ensures { MatchResult result (λ x. Composed x × (state_of x.console ≡ programmed parameters cursor start)) (λ e. programming_refusal parameters start ≡ Some e) }
     {
         let console = programmed(parameters, cursor, start)?;
-        let composition = composition(parameters)?;
+        let composition = Composition::try_from(parameters)?;
         Ok(Screen {
             console,
             composition,
@@ -54,16 +43,13 @@ impl Screen {
     pub fn has_row(&self, row: u8) -> bool
         ensures { result ≡ (nat_le 1 row && nat_le row self.now.composition.rows) }
     {
-        (1 <= row) & (row <= self.composition.rows)
+        (1..=self.composition.rows).contains(&row)
     }
 
     // The clocks of a row time.
     pub fn row_clocks(&self) -> u32
         ensures { result ≡ row_clocks (shape_of self.now.composition) }
     {
-        let width = (self.composition.columns + self.composition.retrace) as u32;
-        self.composition.lines as u32 * width
+        u32::from(self.composition.lines) * u32::from(self.composition.width())
     }
 }
-
-pub mod still;

@@ -1,5 +1,5 @@
 // Why a listing ends early.
-ghost use Rattle.std.specs.Prelude.{◌≡◌};
+ghost use Rattle.std.specs.Prelude.{◌≡◌, Some};
 ghost use Rattle.sheet.specs.Screens.{memory_wanting};
 
 use refusal::Refusal;
@@ -10,6 +10,17 @@ pub struct Stop {
     // the row that is refused
     pub row: Option<u8>,
     pub refusal: Refusal,
+}
+
+impl Stop {
+    pub(crate) fn at(row: u8, refusal: Refusal) -> Stop
+        ensures { result ≡ record { row = Some row; refusal = refusal } }
+    {
+        Stop {
+            row: Some(row),
+            refusal,
+        }
+    }
 }
 
 impl From<AllocError> for Stop {

@@ -2,14 +2,14 @@
 ghost use Rattle.std.specs.Prelude.{◌≡◌, ℕ, ◌≤◌};
 ghost use Rattle.sheet.specs.Stills.{counted};
 
-#[derive(Clone, Copy)]
+#[derive(Clone, Copy, Default)]
 pub struct Tally {
     pub shown: usize,
     pub used: usize,
 }
 
 impl Tally {
-    // With one row more, of so many bytes.
+    // With one row more, of so many bytes. No invariant, since the limits are those of the loop that adds.
     pub(crate) fn with(self, taken: usize) -> Tally
         requires shown { self.shown ≤ 255 }
         requires used { self.used ≤ 0x100_0000 }

@@ -1,4 +1,3 @@
 pub mod Draining
-mod Reading
 mod Rounds
 mod Scan

@@ -1,75 +1,71 @@
--- Going through a list of spans by an index.
-use Rattle.std.proofs.Common.{◌≡◌, ℕ, ◌+◌, ◌<◌, ◌≤◌, min, Bool, true, false, not, ◌&&◌, ◌||◌, List, [], ◌∷◌, length, get_or, drop, Some, sym, refl, ap, ◌∙◌, ⊎_elim, arith}
+-- Going through a list of spans.
+use Rattle.std.proofs.Common.{◌≡◌, ℕ, ◌+◌, ◌<◌, ◌≤◌, min, Bool, true, false, not, ◌&&◌, ◌||◌, cond, List, [], ◌∷◌, length, get_or, drop, map, ltb, Some, None, Option, sym, refl, ap, ◌∙◌, ⊎_elim, arith}
+use Rattle.std.specs.List.{list_all, list_any, filter, find, fold, reduce}
+use Rattle.std.specs.Option.{unwrap_or, option_map}
 use Rattle.std.proofs.lemmas.List.{at_drop_more, at_drop_all}
 use Rattle.std.proofs.lemmas.Bool.{cases_lt}
 use Rattle.std.proofs.lemmas.Bool.Decides.{nat_tests}
 use Rattle.source.specs.declared.stalls.Span.{Span}
-use Rattle.source.specs.Stalling.{small, all_small, covers, busy_in, outside, bad_spans, HeldUntil}
+use Rattle.source.specs.Stalling.{small, all_small, covers, busy_in, outside, bad_spans}
 
 abbrev nowhere : Span
 nowhere = record { first = 0; length = 0 }
 
-abbrev pub span_at : List Span → ℕ → Span
-span_at xs i = get_or xs i nowhere
-
-pub small_more : (xs : List Span) (i : ℕ) → i < length xs → all_small (drop i xs) ≡ (small (span_at xs i) && all_small (drop (i + 1) xs))
+pub small_more : (xs : List Span) (i : ℕ) → i < length xs → all_small (drop i xs) ≡ (small (get_or xs i nowhere) && all_small (drop (i + 1) xs))
 small_more xs i h = at_drop_more all_small xs i nowhere h
 
 pub small_done : (xs : List Span) (i : ℕ) → length xs ≤ i → all_small (drop i xs) ≡ true
 small_done xs i h = at_drop_all all_small xs i h
 
-pub busy_more : (xs : List Span) (i t : ℕ) → i < length xs → busy_in (drop i xs) t ≡ (covers (span_at xs i) t || busy_in (drop (i + 1) xs) t)
-busy_more xs i t h = at_drop_more (λ ys. busy_in ys t) xs i nowhere h
+-- below the least of some numbers is below each of them
+below_fold : (xs : List ℕ) (a t : ℕ) → t < fold min a xs → (t < a) × (list_all (ltb t) xs ≡ true)
+below_fold [] a t h = (h, refl)
+below_fold (x ∷ xs) a t h =
+    let p = below_fold xs (min a x) t h in
+    let l : t < a = omega arith in
+    let m : t < x = omega arith in
+    let q = p.1 in
+    (l, grind (arith, nat_tests))
 
-pub busy_done : (xs : List Span) (i t : ℕ) → length xs ≤ i → busy_in (drop i xs) t ≡ false
-busy_done xs i t h = at_drop_all (λ ys. busy_in ys t) xs i h
+below_least : (xs : List ℕ) (d t : ℕ) → t < unwrap_or (reduce min xs) d → list_all (ltb t) xs ≡ true
+below_least [] d t h = refl
+below_least (x ∷ xs) d t h = let p = below_fold xs x t h in let l = p.0 in let q = p.1 in grind (arith, nat_tests)
 
--- where a span that is left has the clock, the bus is busy to its end
-pub held : (xs : List Span) (i clock : ℕ) → i < length xs → covers (span_at xs i) clock ≡ true → ((t : ℕ) → busy_in (drop i xs) t ≡ true → busy_in xs t ≡ true)
-    → HeldUntil xs clock (Some ((span_at xs i).first + (span_at xs i).length))
-held xs i clock h e left = (
-  grind (arith, nat_tests),
-  λ t a b.
-      let here : covers (span_at xs i) t ≡ true = grind (arith, nat_tests) in
-      left t (busy_more xs i t h ∙ (rw here refl)),
-)
-
--- and where it has not, all hangs on the others
-pub record Left (xs : List Span) (i clock : ℕ) : Type 0 where
-  pub same : busy_in (drop i xs) clock ≡ busy_in xs clock
-  pub left : (t : ℕ) → busy_in (drop i xs) t ≡ true → busy_in xs t ≡ true
-  pub small_left : all_small (drop i xs) ≡ true
-
-pub left_more : (xs : List Span) (i clock : ℕ) → i < length xs → covers (span_at xs i) clock ≡ false → Left xs i clock → Left xs (i + 1) clock
-left_more xs i clock h e l =
-    let m = busy_more xs i clock h in
-    let s = small_more xs i h in
-    let q = l.small_left in
-    record {
-      same = (let p = l.same in grind (arith, nat_tests));
-      left = λ t b. l.left t (busy_more xs i t h ∙ (rw b (or_true (covers (span_at xs i) t))));
-      small_left = grind (arith, nat_tests);
-    }
-  where
-    or_true : (a : Bool) → (a || true) ≡ true
-    or_true true = refl
-    or_true false = refl
-
-pub span_small : (xs : List Span) (i clock : ℕ) → i < length xs → Left xs i clock → (span_at xs i).first + (span_at xs i).length < 4294967296
-span_small xs i clock h l = let s = small_more xs i h in let q = l.small_left in let a : small (span_at xs i) ≡ true = grind (arith, nat_tests) in grind (arith, nat_tests)
-
--- a span that does not have a free clock has none before the next that begins behind it
-pub none_has : (xs : List Span) (i clock until : ℕ) → i < length xs → busy_in (drop i xs) clock ≡ false → (clock < (span_at xs i).first → until ≤ (span_at xs i).first)
-    → (t : ℕ) → clock ≤ t → t < until → busy_in (drop (i + 1) xs) t ≡ busy_in (drop i xs) t
-none_has xs i clock until h e u t a b =
-    let m = busy_more xs i clock h in
-    let not-now : covers (span_at xs i) clock ≡ false = grind (arith, nat_tests) in
-    let never : covers (span_at xs i) t ≡ false =
+-- spans that do not have a free clock have none before the next that begins behind it
+free_on : (xs : List Span) (clock t : ℕ) → busy_in xs clock ≡ false → clock ≤ t → list_all (ltb t) (filter (ltb clock) (map (λ s. s.first) xs)) ≡ true
+    → busy_in xs t ≡ false
+free_on [] clock t e le h = refl
+free_on (s ∷ ss) clock t e le h =
+    let here : covers s clock ≡ false = grind (arith, nat_tests) in
+    let others : busy_in ss clock ≡ false = grind (arith, nat_tests) in
     ⊎_elim
-    (λ (l : clock < (span_at xs i).first). let v = u l in grind (arith, nat_tests))
-    (λ (l : (span_at xs i).first ≤ clock). grind (arith, nat_tests))
-    (cases_lt clock (span_at xs i).first) in
-    sym (busy_more xs i t h ∙ (rw never refl))
+    (λ (l : clock < s.first).
+    let k : ltb clock s.first ≡ true = grind (arith, nat_tests) in
+    let g = rw k at h in
+    let a : ltb t s.first ≡ true = grind (arith, nat_tests) in
+    let b : list_all (ltb t) (filter (ltb clock) (map (λ s. s.first) ss)) ≡ true = grind (arith, nat_tests) in
+    let r = free_on ss clock t others le b in
+    grind (arith, nat_tests))
+    (λ (l : s.first ≤ clock).
+    let k : ltb clock s.first ≡ false = grind (arith, nat_tests) in
+    let g : list_all (ltb t) (filter (ltb clock) (map (λ s. s.first) ss)) ≡ true = rw k at h in
+    let r = free_on ss clock t others le g in
+    grind (arith, nat_tests))
+    (cases_lt clock s.first)
+
+pub free_below_least : (xs : List Span) (clock d t : ℕ) → busy_in xs clock ≡ false → clock ≤ t
+    → t < unwrap_or (reduce min (filter (ltb clock) (map (λ s. s.first) xs))) d → busy_in xs t ≡ false
+free_below_least xs clock d t e le h = free_on xs clock t e le (below_least (filter (ltb clock) (map (λ s. s.first) xs)) d t h)
+
+none_passes : {X : Type 0} (p : X → Bool) (xs : List X) → find p xs ≡ None → list_any p xs ≡ false
+none_passes p [] n = refl
+none_passes p (x ∷ xs) n =
+    elim (p x) as (λ b. cond b (Some x) (find p xs) ≡ None → (b || list_any p xs) ≡ false) [ true ↦ λ m. cc | false ↦ λ m. none_passes p xs m ] n
+
+-- where no span was found to have a clock, it is free
+pub free_if_none : {A : Type 0} (at : A → Span) (xs : List Span) (clock : ℕ) (o : Option A)
+    → option_map at o ≡ find (λ s. covers s clock) xs → o ≡ None → busy_in xs clock ≡ false
+free_if_none at xs clock o e none = none_passes (λ s. covers s clock) xs (sym e ∙ ap (option_map at) none)
 
 -- a small span ends before the largest count
 never_covers : (s : Span) → small s ≡ true → covers s 4294967295 ≡ false

@@ -1,9 +1,10 @@
 -- The meaning of each source's own data.
-use Rattle.std.specs.Prelude.{ℕ, List, drop, vec_items}
+use Rattle.std.specs.Prelude.{ℕ, Bool, List, drop, vec_items}
 use Rattle.source.specs.declared.page.Page.{Page}
-use Rattle.source.specs.declared.free.FreeBus.{FreeBus}
-use Rattle.source.specs.declared.turns.TurnBus.{TurnBus}
-use Rattle.source.specs.declared.spans.SpanBus.{SpanBus}
+use Rattle.source.specs.declared.paged.PagedBus.{PagedBus}
+use Rattle.source.specs.declared.timing.Always.{Always}
+use Rattle.source.specs.declared.cycle.Cycle.{Cycle}
+use Rattle.source.specs.declared.stalls.Stalls.{Stalls}
 use Rattle.source.specs.Meaning.{Meaning}
 use Rattle.source.specs.Buses.{always, in_turn}
 use Rattle.source.specs.Stalling.{outside}
@@ -15,11 +16,22 @@ bytes_of p = vec_items p.bytes
 abbrev pub rest_of : Page → List ℕ
 rest_of p = drop p.at (vec_items p.bytes)
 
-abbrev pub free_bus : FreeBus → Meaning
-free_bus s = record { page = bytes_of s.page; rest = rest_of s.page; free = always }
+-- the clocks in which a timing lets the bus be free
+abbrev pub turns_of : Cycle → ℕ → Bool
+turns_of c = in_turn c.free c.busy c.gone
 
-abbrev pub turn_bus : TurnBus → Meaning
-turn_bus s = record { page = bytes_of s.page; rest = rest_of s.page; free = in_turn s.cycle.free s.cycle.busy s.cycle.gone }
+abbrev pub gaps_of : Stalls → ℕ → Bool
+gaps_of s = outside (vec_items s.spans) s.count
 
-abbrev pub span_bus : SpanBus → Meaning
-span_bus s = record { page = bytes_of s.page; rest = rest_of s.page; free = outside (vec_items s.stalls.spans) s.stalls.count }
+-- a page, with its bus free as the timing has it
+abbrev pub paged : {T : Type 0} → (T → ℕ → Bool) → PagedBus T → Meaning
+paged free s = record { page = bytes_of s.page; rest = rest_of s.page; free = free s.timing }
+
+abbrev pub free_bus : PagedBus Always → Meaning
+free_bus s = paged (λ _. always) s
+
+abbrev pub turn_bus : PagedBus Cycle → Meaning
+turn_bus s = paged turns_of s
+
+abbrev pub span_bus : PagedBus Stalls → Meaning
+span_bus s = paged gaps_of s

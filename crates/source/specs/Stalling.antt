@@ -1,5 +1,6 @@
 -- A bus that is busy in spans of clocks.
-use Rattle.std.specs.Prelude.{◌≡◌, ℕ, ◌+◌, ◌<◌, ◌≤◌, min, Bool, true, false, not, ◌&&◌, ◌||◌, List, [], ◌∷◌, length, Some, None, Option, nat_le, nat_lt}
+use Rattle.std.specs.Prelude.{ℕ, ◌+◌, min, Bool, not, ◌&&◌, ◌||◌, List, length, nat_le, nat_lt}
+use Rattle.std.specs.List.{list_any, list_all}
 use Rattle.source.specs.declared.stalls.Span.{Span}
 
 -- from the first clock on, for as many as the length
@@ -8,8 +9,7 @@ covers s t = nat_le s.first t && nat_lt t (s.first + s.length)
 
 -- some span has the clock
 abbrev pub busy_in : List Span → ℕ → Bool
-busy_in [] t = false
-busy_in (s ∷ ss) t = covers s t || busy_in ss t
+busy_in spans t = list_any (λ s. covers s t) spans
 
 -- free in the n-th clock from a count, which stops at its largest
 abbrev pub outside : List Span → ℕ → ℕ → Bool
@@ -20,14 +20,8 @@ abbrev pub small : Span → Bool
 small s = nat_lt s.first 2147483648 && nat_lt s.length 2147483648
 
 abbrev pub all_small : List Span → Bool
-all_small [] = true
-all_small (s ∷ ss) = small s && all_small ss
+all_small spans = list_all small spans
 
 -- too many spans, or one with a figure too large
 abbrev pub bad_spans : List Span → Bool
 bad_spans spans = nat_lt 256 (length spans) || not (all_small spans)
-
--- a clock is free, or it and all clocks up to another are busy
-abbrev pub HeldUntil : List Span → (clock : ℕ) → Option ℕ → Type 0
-HeldUntil spans clock None = busy_in spans clock ≡ false
-HeldUntil spans clock (Some end) = (clock < end) × ((t : ℕ) → clock ≤ t → t < end → busy_in spans t ≡ true)

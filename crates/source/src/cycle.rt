@@ -1,13 +1,15 @@
-// A bus that is free for some clocks and then busy for some, in turn.
-ghost use Rattle.std.specs.Prelude.{◌≡◌, ℕ, ◌+◌, ◌<◌, true, false, if◌then◌else◌, MatchResult, nat_eq, nat_lt};
+// The timing of a bus that is free for some clocks and then busy for some, in turn.
+ghost use Rattle.std.specs.Prelude.{◌≡◌, ◌+◌, ◌<◌, true, false, MatchResult};
 ghost use Rattle.source.specs.Meaning.{later};
-ghost use Rattle.source.specs.Buses.{always, in_turn, no_turn};
+ghost use Rattle.source.specs.Buses.{in_turn, no_turn};
 ghost use Rattle.refusal.specs.declared.Refusal.TheVariants.{BadBus};
 
+use crate::timing::Timing;
 use refusal::Refusal;
+use std::alloc::Global;
 
 #[derive(Drop)]
-pub(crate) struct Cycle {
+pub struct Cycle {
     free: u8,
     busy: u8,
     // clocks of the present turn that have passed
@@ -16,19 +18,11 @@ pub(crate) struct Cycle {
 }
 
 impl Cycle {
-    pub(crate) fn unbroken() -> Cycle
-        ensures { in_turn result.free result.busy result.gone ≡ always }
-    {
-        Cycle {
-            free: 1,
-            busy: 0,
-            gone: 0,
-        }
-    }
+    ghost use Rattle.source.specs.Held.{turns_of};
 
     pub(crate) fn new(free: u8, busy: u8) -> Result<Cycle, Refusal>
         ensures { MatchResult result
-            (λ c. (no_turn free busy ≡ false) × (c.free ≡ free) × (c.busy ≡ busy) × (c.gone ≡ 0))
+            (λ c. (no_turn free busy ≡ false) × (turns_of c ≡ in_turn free busy 0))
             (λ why. (why ≡ BadBus) × (no_turn free busy ≡ true)) }
     {
         if free == 0 && busy == 0 {
@@ -41,42 +35,47 @@ impl Cycle {
         })
     }
 
-    // Whether the bus is free in the clock that now passes.
-    pub(crate) fn clock(&mut self) -> bool
-        ensures this { result ≡ in_turn self.old.free self.old.busy self.old.gone 0 }
-        ensures after { in_turn self.new.free self.new.busy self.new.gone
-            ≡ later (in_turn self.old.free self.old.busy self.old.gone) }
+    // A turn that is over begins anew.
+    #[tactic(auto, using(crate::proofs::Rounds::turn_goes))]
+    fn pass(&mut self)
+        ensures { turns_of self.new ≡ later (turns_of self.old) }
     {
-        let free = self.is_free();
+        if self.gone + 1 == self.turn() {
+            self.gone = 0;
+        } else {
+            self.gone += 1;
+        }
+    }
+
+    fn turn(&self) -> u16
+        ensures { result ≡ self.now.free + self.now.busy }
+    {
+        self.free as u16 + self.busy as u16
+    }
+}
+
+impl Timing for Cycle {
+    ghost use Rattle.source.specs.Held.{turns_of};
+
+    ghost free = { turns_of };
+
+    fn always_free(_heap: Global) -> Cycle {
+        Cycle {
+            free: 1,
+            busy: 0,
+            gone: 0,
+        }
+    }
+
+    #[tactic(auto, using(crate::proofs::Rounds::turn_now))]
+    fn clock(&mut self) -> bool {
+        let free = self.gone < self.free as u16;
         self.pass();
         free
     }
 
-    fn is_free(&self) -> bool
-        ensures { result ≡ nat_lt self.now.gone self.now.free }
-    {
-        self.gone < self.free as u16
-    }
-
-    // A turn that is over begins anew.
-    fn pass(&mut self)
-        ensures same { (self.new.free ≡ self.old.free) × (self.new.busy ≡ self.old.busy) }
-        ensures gone { self.new.gone ≡ (if nat_eq (self.old.gone + 1) (self.old.free + self.old.busy) then 0 else self.old.gone + 1) }
-    {
-        let next = self.gone + 1;
-        self.gone = if next == self.free as u16 + self.busy as u16 {
-            0
-        } else {
-            next
-        };
-    }
-
-    // Many clocks at once.
-    pub(crate) fn wait(&mut self, clocks: u32)
-        ensures { in_turn self.new.free self.new.busy self.new.gone
-            ≡ (λ (k : ℕ). in_turn self.old.free self.old.busy self.old.gone (clocks + k)) }
-    {
-        let turn = self.free as u64 + self.busy as u64;
-        self.gone = ((self.gone as u64 + clocks as u64) % turn) as u16;
+    fn wait(&mut self, clocks: u32) {
+        let gone = self.gone as u64 + clocks as u64;
+        self.gone = (gone % self.turn() as u64) as u16;
     }
 }

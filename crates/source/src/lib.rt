@@ -6,8 +6,10 @@ mod clocks;
 mod cycle;
 mod free;
 mod page;
+mod paged;
 mod spans;
 mod stalls;
+mod timing;
 mod turns;
 
 pub use bus::Source;

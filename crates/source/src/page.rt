@@ -1,4 +1,4 @@
-// A page in memory, and how far it has been handed out.
+// A page in memory, and how far it has been handed out: a place and no iterator, since a page begins again.
 ghost use Rattle.std.specs.Prelude.{◌≤◌, vec_len};
 
 pub(crate) mod reading;

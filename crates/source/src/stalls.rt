@@ -1,12 +1,11 @@
 // The spans of clocks in which a bus is busy.
-ghost use Rattle.std.specs.Prelude.{◌≡◌, ℕ, ◌+◌, ◌<◌, ◌≤◌, min, true, false, not, IfOk, MatchResult};
-ghost use Rattle.source.specs.Buses.{always};
-ghost use Rattle.source.specs.Meaning.{later};
-ghost use Rattle.source.specs.Stalling.{small, all_small, covers, busy_in, outside, bad_spans, HeldUntil};
-ghost use Rattle.refusal.specs.declared.Refusal.TheVariants.{BadBus};
+ghost use Rattle.std.specs.Prelude.{◌≡◌, ℕ, ◌+◌, ◌<◌, ◌≤◌, min, true, false, not, if◌then◌else◌, MatchResult};
+ghost use Rattle.source.specs.Stalling.{small, all_small, covers, busy_in, outside, bad_spans};
+ghost use Rattle.refusal.specs.declared.Refusal.TheVariants.{BadBus, OutOfMemory};
 
+use crate::timing::Timing;
 use refusal::Refusal;
-use std::alloc::{AllocError, Global};
+use std::alloc::Global;
 
 const MOST_SPANS: usize = 256;
 
@@ -19,16 +18,22 @@ pub struct Span {
     pub length: u32,
 }
 
+// Up to the clock `until` the bus is free, or it is busy.
+#[derive(Clone, Copy)]
+struct Stretch {
+    free: bool,
+    until: u32,
+}
+
 #[derive(Drop)]
-pub(crate) struct Stalls {
+pub struct Stalls {
     spans: Vec<Span>,
     // clocks since the source was made
     count: u32,
-    // up to the clock `until` the bus is free, or it is busy
-    free: bool,
-    until: u32,
+    // the stretch that the present clock lies in, or one that is over
+    stretch: Stretch,
     ghost fit: { bad_spans spans.items ≡ false },
-    ghost steady: { (t : ℕ) → count ≤ t → t < until → busy_in spans.items t ≡ not free },
+    ghost steady: { (t : ℕ) → count ≤ t → t < stretch.until → busy_in spans.items t ≡ not stretch.free },
 }
 
 impl Span {
@@ -57,7 +62,7 @@ fn all_small(spans: &[Span]) -> bool
     true
 }
 
-pub(crate) fn check_spans(spans: &[Span]) -> Result<(), Refusal>
+fn check_spans(spans: &[Span]) -> Result<(), Refusal>
     ensures { MatchResult result (λ _. bad_spans spans.now ≡ false) (λ why. (why ≡ BadBus) × (bad_spans spans.now ≡ true)) }
 {
     if spans.len() > MOST_SPANS || !all_small(spans) {
@@ -66,107 +71,83 @@ pub(crate) fn check_spans(spans: &[Span]) -> Result<(), Refusal>
     Ok(())
 }
 
-// Where the clock is busy, a clock from which on the span that has it is over.
-fn busy_until(spans: &[Span], clock: u32) -> Option<u32>
+// Whether the bus is free in a clock, and one up to which it stays as it is.
+fn stretch_from(spans: &[Span], clock: u32) -> Stretch
     requires { all_small spans.now ≡ true }
-    ensures { HeldUntil spans.now clock result }
+    ensures now { busy_in spans.now clock ≡ not result.free }
+    ensures steady { (t : ℕ) → clock ≤ t → t < result.until → busy_in spans.now t ≡ not result.free }
 {
-    for span in spans {
-        if span.covers(clock) {
-            return Some(span.first + span.length);
+    match spans.iter().find(|span| span.covers(clock)) {
+        Some(span) => Stretch {
+            free: false,
+            until: span.first + span.length,
+        },
+        None => {
+            let ahead = spans
+                .iter()
+                .map(|span| span.first)
+                .filter(|first| *first > clock);
+            Stretch {
+                free: true,
+                until: ahead.min().unwrap_or(u32::MAX),
+            }
         }
     }
-    None
-}
-
-// From a clock that is free, the first in which another span begins.
-fn free_until(spans: &[Span], clock: u32) -> u32
-    requires { busy_in spans.now clock ≡ false }
-    ensures { (t : ℕ) → clock ≤ t → t < result → busy_in spans.now t ≡ false }
-{
-    let mut until = u32::MAX;
-    for span in spans {
-        if span.first > clock {
-            until = until.min(span.first);
-        }
-    }
-    until
 }
 
 impl Stalls {
-    pub(crate) fn none(heap: Global) -> Stalls
-        ensures { outside result.spans.items result.count ≡ always }
+    ghost use Rattle.source.specs.Held.{gaps_of};
+
+    pub(crate) fn new(heap: Global, spans: &[Span]) -> Result<Stalls, Refusal>
+        ensures { MatchResult result
+            (λ s. (bad_spans spans.now ≡ false) × (gaps_of s ≡ outside spans.now 0))
+            (λ why. why ≡ (if bad_spans spans.now then BadBus else OutOfMemory)) }
+    {
+        check_spans(spans)?;
+        Ok(Stalls::counted(Vec::from_slice(heap, spans)?))
+    }
+
+    fn counted(spans: Vec<Span>) -> Stalls
+        requires { bad_spans spans.items ≡ false }
+        ensures { gaps_of result ≡ outside spans.items 0 }
     {
         Stalls {
-            spans: Vec::new(heap),
-            count: 0,
-            free: true,
-            until: 0,
-        }
-    }
-
-    pub(crate) fn copied(heap: Global, spans: &[Span]) -> Result<Stalls, AllocError>
-        requires { bad_spans spans.now ≡ false }
-        ensures { IfOk result (λ s. (s.spans.items ≡ spans.now) × (s.count ≡ 0)) }
-    {
-        let spans = Vec::from_slice(heap, spans)?;
-        Ok(Stalls {
             spans,
             count: 0,
-            free: true,
-            until: 0,
-        })
-    }
-
-    // Whether the bus is free in the clock that now passes.
-    pub(crate) fn clock(&mut self) -> bool
-        ensures this { result ≡ outside self.old.spans.items self.old.count 0 }
-        ensures after { outside self.new.spans.items self.new.count ≡ later (outside self.old.spans.items self.old.count) }
-    {
-        if self.count >= self.until {
-            self.look();
-        }
-        let free = self.free;
-        self.pass();
-        free
-    }
-
-    // Goes through the spans for the clock that now passes, and for how long the bus stays as it is.
-    fn look(&mut self)
-        ensures same { (self.new.spans.items ≡ self.old.spans.items) × (self.new.count ≡ self.old.count) }
-        ensures free { busy_in self.old.spans.items self.old.count ≡ not self.new.free }
-    {
-        match busy_until(self.spans.as_slice(), self.count) {
-            Some(end) => {
-                self.free = false;
-                self.until = end;
-            }
-            None => {
-                self.free = true;
-                self.until = free_until(self.spans.as_slice(), self.count);
-            }
+            stretch: Stretch {
+                free: true,
+                until: 0,
+            },
         }
     }
 
+    #[tactic(auto, using(crate::proofs::Scan::free_at_stop))]
     pub(crate) fn count(&self) -> u32
         ensures value { result ≡ self.now.count }
-        ensures stopped { result ≡ 4294967295 → (n : ℕ) → outside self.now.spans.items result n ≡ true }
+        ensures stopped { result ≡ 4294967295 → (n : ℕ) → gaps_of self.now n ≡ true }
     {
         self.count
     }
+}
 
-    fn pass(&mut self)
-        ensures same { self.new.spans.items ≡ self.old.spans.items }
-        ensures count { self.new.count ≡ min (self.old.count + 1) 4294967295 }
-    {
-        self.count = self.count.saturating_add(1);
+impl Timing for Stalls {
+    ghost use Rattle.source.specs.Held.{gaps_of};
+
+    ghost free = { gaps_of };
+
+    fn always_free(heap: Global) -> Stalls {
+        Stalls::counted(Vec::new(heap))
     }
 
-    // Many clocks at once.
-    pub(crate) fn wait(&mut self, clocks: u32)
-        ensures { outside self.new.spans.items self.new.count
-            ≡ (λ (k : ℕ). outside self.old.spans.items self.old.count (clocks + k)) }
-    {
+    fn clock(&mut self) -> bool {
+        if self.count >= self.stretch.until {
+            self.stretch = stretch_from(&self.spans, self.count);
+        }
+        self.count = self.count.saturating_add(1);
+        self.stretch.free
+    }
+
+    fn wait(&mut self, clocks: u32) {
         self.count = self.count.saturating_add(clocks);
     }
 }

@@ -10,22 +10,15 @@ use std::io;
 const CLOCKS: u32 = 4096;
 
 fn some_page(heap: Global, length: u32) -> Result<Vec<u8>, AllocError> {
-    let mut page = Vec::new(heap);
-    for i in 0..length {
-        page.push((i % 251) as u8)?;
-    }
-    Ok(page)
+    (0..length).map(|i| (i % 251) as u8).collect(heap)
 }
 
 // The clocks from `from` on in which a bus free for `free` clocks and busy for `busy` is free.
 fn turn_clocks(heap: Global, free: u32, busy: u32, from: u32) -> Result<Vec<bool>, AllocError> {
-    let mut clocks = Vec::new(heap);
     let turn = free.saturating_add(busy);
-    for t in 0..CLOCKS {
-        let clock = from.saturating_add(t);
-        clocks.push(turn > 0 && clock % turn < free)?;
-    }
-    Ok(clocks)
+    (from..from.saturating_add(CLOCKS))
+        .map(|clock| turn > 0 && clock % turn < free)
+        .collect(heap)
 }
 
 fn busy(first: u32, length: u32) -> Span {
@@ -36,31 +29,31 @@ fn busy(first: u32, length: u32) -> Span {
 fn span_clocks(heap: Global, spans: &[Span]) -> Result<Vec<bool>, AllocError> {
     let mut clocks = Vec::from_elem(heap, true, CLOCKS as usize)?;
     for span in spans {
-        let end = span.first.saturating_add(span.length).min(CLOCKS);
-        for t in span.first..end {
-            if let Some(clock) = clocks.get_mut(t as usize) {
-                *clock = false;
-            }
+        let end = span.first.saturating_add(span.length);
+        for clock in clocks
+            .iter_mut()
+            .take(end as usize)
+            .skip(span.first as usize)
+        {
+            *clock = false;
         }
     }
     Ok(clocks)
 }
 
 // In how many clocks another answer came than the page's next byte if free, none if busy.
-fn differences(page: &[u8], free: &[bool], came: &[Option<u8>]) -> u32 {
+fn differences(page: &[u8], free: &[bool], came: &[Option<u8>]) -> usize {
     let mut bytes = page.iter();
-    let mut count = 0u32;
-    for (is_free, answer) in free.iter().zip(came.iter()) {
-        let due = if *is_free {
+    let due = free.iter().map(|is_free| {
+        if *is_free {
             bytes.next().copied()
         } else {
             None
-        };
-        if *answer != due {
-            count = count.saturating_add(1);
         }
-    }
-    count
+    });
+    due.zip(came.iter())
+        .filter(|(due, answer)| *due != **answer)
+        .count()
 }
 
 fn print_first(rt: &HostRuntime, came: &[Option<u8>]) -> io::Result<()> {
@@ -83,6 +76,7 @@ fn report<S: Source>(
 ) -> anyhow::Result<()> {
     let mut came = Vec::from_elem(rt.alloc(), None, free.len())?;
     drain(source, came.as_mut_slice());
+    // one loop, since three figures run along in it
     let mut bytes = 0u32;
     let mut sum = 0u32;
     let mut last = 0usize;

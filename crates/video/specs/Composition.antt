@@ -1,8 +1,11 @@
 -- The screen composition.
-use Rattle.std.specs.Prelude.{ℕ, ◌+◌, ◌-◌, ◌*◌, ◌/◌, ◌%◌, ◌<◌, ◌≤◌, Bool, cond, ◌==◌, nat_le}
+use Rattle.std.specs.Prelude.{ℕ, ◌+◌, ◌-◌, ◌*◌, ◌/◌, ◌%◌, ◌<◌, ◌≤◌, Bool, cond, ◌==◌, nat_le, ◌≡◌, true, false, Result, IfOk, MatchResult}
 use Rattle.video.specs.declared.format.CursorFormat.{CursorFormat}
 use Rattle.video.specs.declared.format.CursorFormat.TheVariants.{BlinkingBlock, BlinkingUnderline, Block, Underline}
 use Rattle.video.specs.declared.composition.Composition.{Composition}
+use Rattle.video.specs.declared.parameters.ResetParameters.{ResetParameters}
+use Rattle.refusal.specs.declared.Refusal.{Refusal}
+use Rattle.refusal.specs.declared.Refusal.TheVariants.{TooManyColumns}
 
 -- h characters and z clocks of retrace to a line, l lines to a row, r rows and v row times of retrace to a frame;
 -- underlines on line u; with f a field code has a position of its own
@@ -65,6 +68,11 @@ shape_of c =
       spaced = c.spaced;
       cursor = c.cursor;
     }
+
+-- what the library makes of the four parameters
+pub record Composes (p : ResetParameters) (r : Result Composition Refusal) : Type 0 where
+  pub composed : MatchResult r (λ c. (allowed p.first ≡ true) × (shape_of c ≡ composed p.first p.second p.third p.fourth)) (λ e. (allowed p.first ≡ false) × (e ≡ TooManyColumns))
+  pub proper : IfOk r (λ c. Proper (shape_of c))
 
 -- the clocks of a line
 abbrev pub width : Shape → ℕ

@@ -27,7 +27,7 @@ impl Field {
         }
     }
 
-    // The field that a code's low six bits ask for.
+    // The field that a code's low six bits ask for; by name and no `From`, since a byte is read as more than a field code.
     pub fn from_code(code: u8) -> Field
         ensures { result ≡ field_of code }
     {

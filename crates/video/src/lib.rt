@@ -6,6 +6,7 @@ pub mod composition;
 pub mod field;
 pub mod format;
 pub mod mark;
+pub mod parameters;
 pub mod scan;
 pub mod signals;
 pub mod table;

@@ -3,42 +3,24 @@ use crate::help::USAGE;
 use arguments::fault::ArgumentFault;
 use refusal::Refusal;
 use sheet::stop::Stop;
-use std::alloc::{AllocError, AllocFailed};
-use std::{fmt, io};
+use std::alloc::AllocError;
+use std::io;
+use thiserror::Error;
 
-#[derive(Drop)]
+#[derive(Debug, Drop, Error)]
 pub enum Failure {
-    Arguments(ArgumentFault),
+    #[error("{0}\n{usage}", usage = USAGE)]
+    Arguments(#[from] ArgumentFault),
     // by the console
-    Refused(Refusal),
+    #[error("{0} (refusal {number})\n", number = .0.number())]
+    Refused(#[from] Refusal),
     // by the console, at a row
+    #[error("row {0}: {1} (refusal {number})\n", number = .1.number())]
     RowRefused(u8, Refusal),
+    #[error("PAGEFILE cannot be read: {0}\n")]
     Unread(io::Error),
-    Unwritten(io::Error),
-}
-
-impl fmt::Display for Failure {
-    fn fmt<W: fmt::Write>(&self, f: &mut fmt::Formatter<W>) -> fmt::Result {
-        match self {
-            Failure::Arguments(fault) => write!(f, "{fault}\n{USAGE}"),
-            Failure::Refused(refusal) => {
-                let number = refusal.number();
-                writeln!(f, "{refusal} (refusal {number})")
-            }
-            Failure::RowRefused(row, refusal) => {
-                let number = refusal.number();
-                writeln!(f, "row {row}: {refusal} (refusal {number})")
-            }
-            Failure::Unread(error) => writeln!(f, "PAGEFILE cannot be read: {error}"),
-            Failure::Unwritten(error) => writeln!(f, "the listing cannot be written: {error}"),
-        }
-    }
-}
-
-impl From<ArgumentFault> for Failure {
-    fn from(fault: ArgumentFault) -> Failure {
-        Failure::Arguments(fault)
-    }
+    #[error("the listing cannot be written: {0}\n")]
+    Unwritten(#[from] io::Error),
 }
 
 impl From<Stop> for Failure {
@@ -53,26 +35,8 @@ impl From<Stop> for Failure {
     }
 }
 
-impl From<Refusal> for Failure {
-    fn from(refusal: Refusal) -> Failure {
-        Failure::Refused(refusal)
-    }
-}
-
-impl From<io::Error> for Failure {
-    fn from(error: io::Error) -> Failure {
-        Failure::Unwritten(error)
-    }
-}
-
 impl From<AllocError> for Failure {
     fn from(_e: AllocError) -> Failure {
-        Failure::Refused(Refusal::OutOfMemory)
-    }
-}
-
-impl<T: Drop> From<AllocFailed<T>> for Failure {
-    fn from(_e: AllocFailed<T>) -> Failure {
         Failure::Refused(Refusal::OutOfMemory)
     }
 }

@@ -23,10 +23,7 @@ fn arguments(words: &[String]) -> Result<Asked<'_>, ArgumentFault> {
 }
 
 fn answer(rt: &HostRuntime) -> Result<(), Failure> {
-    let mut words = Vec::new(rt.alloc());
-    for word in env::args(rt)?.skip(1) {
-        words.push(word)?;
-    }
+    let words: Vec<String> = env::args(rt)?.skip(1).collect(rt.alloc())?;
     match arguments(words.as_slice())? {
         Asked::Help => print!(rt; "{USAGE}{HELP}")?,
         Asked::Listing(request) => show(rt, request)?,

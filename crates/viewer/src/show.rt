@@ -1,17 +1,26 @@
 // A page, listed as a request asks for it.
 use crate::failure::Failure;
-use crate::frames::show_frames;
-use crate::stills::show_stills;
 use arguments::request::Request;
+use sheet::screen::Screen;
 use std::fs;
 
+// A page, the screen that shows it, and what is asked of them.
+#[derive(Drop)]
+pub(crate) struct Viewing<'a> {
+    pub(crate) request: Request<'a>,
+    pub(crate) screen: Screen,
+    pub(crate) page: &'a [u8],
+}
+
 pub(crate) fn show(rt: &HostRuntime, request: Request) -> Result<(), Failure> {
-    let page = match fs::read(rt, request.page) {
-        Ok(page) => page,
-        Err(error) => return Err(Failure::Unread(error)),
+    let page = fs::read(rt, request.page).map_err(Failure::Unread)?;
+    let viewing = Viewing {
+        request,
+        screen: Screen::programmed(request.parameters, request.cursor, request.start)?,
+        page: page.as_slice(),
     };
     match request.playing {
-        None => show_stills(rt, request, page.as_slice()),
-        Some(playing) => show_frames(rt, request, playing, page.as_slice()),
+        None => viewing.stills(rt),
+        Some(playing) => viewing.frames(rt, playing),
     }
 }

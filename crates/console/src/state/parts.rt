@@ -1,8 +1,9 @@
 // A console taken apart, and put together again from parts that may come from anywhere.
-ghost use Rattle.std.specs.Prelude.{◌≡◌, ◌<◌, true};
+ghost use Rattle.std.specs.Prelude.{◌≡◌, true};
+ghost use Rattle.video.specs.Composition.{allowed};
 ghost use Rattle.console.specs.Bounds.{first, row_times, line_times, clock_times};
-ghost use Rattle.console.specs.Model.{shape_in, state_of};
-ghost use Rattle.console.specs.Parts.{state_in, limits, inside, settled, held};
+ghost use Rattle.console.specs.Model.{shape_in, state_in, state_of};
+ghost use Rattle.console.specs.Parts.{limits, inside, settled, held};
 
 use crate::raster::Raster;
 use crate::state::Console;
@@ -15,16 +16,21 @@ use video::composition::Composition;
 pub struct Parts {
     pub composition: Option<Composition>,
     pub pending: Pending,
+    // video enable
     pub ve: bool,
+    // interrupt enable
     pub ie: bool,
+    // the latest bursts asked for
     pub burst: Burst,
+    // column and row, from 0
     pub cursor: Option<(u8, u8)>,
     pub raster: Raster,
     pub flags: Flags,
+    // column and row of the latest light pen stroke
     pub pen: (u8, u8),
 }
 
-// What the row, the line and the clock of the line stay below.
+// A triple, since the line that asks for it takes it apart: what the row, the line and the clock of the line stay below.
 fn limits(composition: Option<Composition>) -> (u8, u8, u8)
     ensures shape { result ≡ limits (shape_in composition) }
     ensures times { result ≡ (row_times composition, line_times composition, clock_times composition) }
@@ -35,12 +41,13 @@ fn limits(composition: Option<Composition>) -> (u8, u8, u8)
     }
 }
 
-fn first(pending: Pending) -> u8
-    ensures { result ≡ first pending }
+// The first Reset parameter that is kept asks for 80 characters at most.
+fn columns_allowed(pending: Pending) -> bool
+    ensures { result ≡ allowed (first pending) }
 {
     match pending {
-        Pending::Reset2(p) | Pending::Reset3(p, _) | Pending::Reset4(p, _, _) => p,
-        _ => 0,
+        Pending::Reset2(p) | Pending::Reset3(p, _) | Pending::Reset4(p, _, _) => p % 128 < 80,
+        _ => true,
     }
 }
 
@@ -49,49 +56,24 @@ impl Console {
         ensures state { state_in result ≡ state_of self.now }
         ensures inside { inside (state_in result) ≡ true }
     {
-        Parts {
-            composition: self.composition,
-            pending: self.pending,
-            ve: self.ve,
-            ie: self.ie,
-            burst: self.burst,
-            cursor: self.cursor,
-            raster: self.raster,
-            flags: self.flags,
-            pen: self.pen,
-        }
+        self.parts
     }
 
-    // None where a counter lies outside its limit, or a kept parameter asks for too many characters.
+    // None where a counter lies outside its limit, or a kept parameter asks for too many characters; an error would say no more.
     pub fn from_parts(parts: Parts) -> Option<Console>
         ensures { held result ≡ settled (state_in parts) }
     {
         let (rows, lines, clocks) = limits(parts.composition);
-        if parts.raster.row >= rows {
-            return None;
+        let beam = parts.raster.beam;
+        if beam.row < rows
+            && beam.line < lines
+            && beam.column < clocks
+            && beam.blink < 32
+            && columns_allowed(parts.pending)
+        {
+            Some(Console { parts })
+        } else {
+            None
         }
-        if parts.raster.line >= lines {
-            return None;
-        }
-        if parts.raster.column >= clocks {
-            return None;
-        }
-        if parts.raster.blink >= 32 {
-            return None;
-        }
-        if first(parts.pending) % 128 > 79 {
-            return None;
-        }
-        Some(Console {
-            composition: parts.composition,
-            pending: parts.pending,
-            ve: parts.ve,
-            ie: parts.ie,
-            burst: parts.burst,
-            cursor: parts.cursor,
-            raster: parts.raster,
-            flags: parts.flags,
-            pen: parts.pen,
-        })
     }
 }

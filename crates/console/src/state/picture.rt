@@ -14,10 +14,8 @@ impl Console {
             (λ w. WindowOf (state_of self.now) page.now row w.place w.bytes.now)
             (λ e. window_refused (state_of self.now).shape (state_of self.now).control.bursts.n page.now row ≡ Some e) }
     {
-        match self.composition {
-            None => Err(Refusal::NoComposition),
-            Some(composition) => PageReader::new(composition, self.burst.size, page).window(row),
-        }
+        let composition = self.parts.composition.ok_or(Refusal::NoComposition)?;
+        PageReader::new(composition, self.parts.burst.size, page).window(row)
     }
 
     // The page's picture of a row, into the first words of `out`.
@@ -27,14 +25,12 @@ impl Console {
             (λ e. (still_refused (state_of self.now).shape (state_of self.now).control.bursts.n page.now row (length out.old) ≡ Some e)
             × (out.new ≡ out.old)) }
     {
-        match self.composition {
-            None => Err(Refusal::NoComposition),
-            Some(composition) => PageReader::new(composition, self.burst.size, page).still(
-                row,
-                self.cursor,
-                self.raster.blink,
-                out,
-            ),
-        }
+        let composition = self.parts.composition.ok_or(Refusal::NoComposition)?;
+        PageReader::new(composition, self.parts.burst.size, page).still(
+            row,
+            self.parts.cursor,
+            self.parts.raster.beam.blink,
+            out,
+        )
     }
 }

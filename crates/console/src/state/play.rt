@@ -1,81 +1,53 @@
 // Calls in a row over one source.
-ghost use Rattle.std.specs.Prelude.{◌≡◌, ℕ, ◌+◌, ◌<◌, ◌≤◌, true, [], ◌∷◌, ◌++◌, length, drop, vec_len, vec_capacity, MatchResult};
+ghost use Rattle.std.specs.Prelude.{◌≡◌, ℕ, ◌+◌, ◌≤◌, [], ◌∷◌, ◌++◌, length, drop, MatchResult};
 ghost use Rattle.refusal.specs.declared.Refusal.TheVariants.{OutOfMemory};
 ghost use Rattle.frame.specs.History.{call_state, call_source, call_answer};
 ghost use Rattle.frame.specs.Law.{Harmless, FrameLaw};
 ghost use Rattle.console.specs.Model.{state_of};
-ghost use Rattle.frame.specs.declared.call.Call.TheVariants.{Clock};
 ghost use Rattle.console.specs.Idle.{Clocks};
-ghost use Rattle.console.specs.Playing.{told, Played, On, Lawful};
+ghost use Rattle.console.specs.Room.{HasRoom, Grown};
+ghost use Rattle.console.specs.Playing.{Played, On, Lawful};
 
 use crate::state::Console;
 use frame::call::{Answer, Call};
 use refusal::Refusal;
 use source::Source;
 
-fn told(res: Result<(), Refusal>) -> Answer
-    ensures { result ≡ told res }
-{
-    match res {
-        Ok(()) => Answer::Done,
-        Err(refusal) => Answer::Refused(refusal),
-    }
-}
-
-fn is_clock(call: Call) -> bool
-    ensures { result ≡ true → call ≡ Clock }
-{
-    match call {
-        Call::Clock => true,
-        _ => false,
-    }
-}
-
 // How many of the next calls, at most `most`, are clocks, up to the first that is not.
 fn clocks_ahead(calls: &[Call], most: u8) -> u8
     ensures most { result ≤ most }
     ensures clocks { Clocks result calls.now }
 {
-    let limit = if calls.len() < most as usize {
-        calls.len() as u8
-    } else {
-        most
-    };
-    let mut n = 0;
-    while n < limit {
-        if !is_clock(calls[n as usize]) {
-            break;
-        }
-        n += 1;
-    }
-    n
+    calls
+        .iter()
+        .take(most as usize)
+        .take_while(|call| matches!(call, Call::Clock))
+        .count() as u8
 }
 
 impl Console {
     // One call over a source.
+    #[tactic(auto, unfolding(frame::specs::History::call_answer, frame::specs::History::call_state, frame::specs::History::call_source), using(crate::proofs::Plays::told_is, crate::proofs::Plays::told_stroke, crate::proofs::Plays::worded_is))]
     pub fn call<S: Source>(&mut self, source: &mut S, call: Call) -> Answer
         ensures answer { result ≡ call_answer call (state_of self.old) }
         ensures state { state_of self.new ≡ call_state call (state_of self.old) (S.means source.old) }
         ensures source { S.means source.new ≡ call_source call (state_of self.old) (S.means source.old) }
     {
         match call {
-            Call::Command(byte) => told(self.command(byte)),
-            Call::Parameter(byte) => told(self.parameter(byte)),
+            Call::Command(byte) => Answer::from(self.command(byte)),
+            Call::Parameter(byte) => Answer::from(self.parameter(byte)),
             Call::Status => Answer::Byte(self.status()),
             Call::Read => Answer::Byte(self.read_parameter()),
-            Call::Stroke => told(self.stroke()),
-            Call::Clock => match self.clock(source) {
-                Ok(word) => Answer::Word(word),
-                Err(refusal) => Answer::Refused(refusal),
-            },
+            Call::Stroke => Answer::from(self.stroke()),
+            Call::Clock => Answer::from(self.clock(source)),
         }
     }
 
     // One call, whose answer there is room for.
     fn record<S: Source>(&mut self, source: &mut S, call: Call, answers: &mut Vec<Answer>)
-        requires { vec_len answers.old < vec_capacity answers.old }
+        requires { HasRoom answers.old 1 }
         ensures items { answers.new.items ≡ answers.old.items ++ (call_answer call (state_of self.old) ∷ []) }
-        ensures room { (vec_len answers.new ≡ vec_len answers.old + 1) × (vec_capacity answers.new ≡ vec_capacity answers.old) }
+        ensures room { Grown answers.old answers.new 1 }
         ensures state { state_of self.new ≡ call_state call (state_of self.old) (S.means source.old) }
         ensures source { S.means source.new ≡ call_source call (state_of self.old) (S.means source.old) }
     {
@@ -90,25 +62,33 @@ impl Console {
         calls: &[Call],
         answers: &mut Vec<Answer>,
     ) -> usize
-        requires { vec_len answers.old + length calls.now ≤ vec_capacity answers.old }
+        requires { HasRoom answers.old (length calls.now) }
         ensures on { On (drop result calls.now) (state_of self.new) (S.means source.new) answers.new.items
             calls.now (state_of self.old) (S.means source.old) answers.old.items }
         ensures some { result ≤ length calls.now }
-        ensures room { (vec_len answers.new ≡ vec_len answers.old + result) × (vec_capacity answers.new ≡ vec_capacity answers.old) }
+        ensures room { Grown answers.old answers.new result }
     {
-        let Some(composition) = self.composition else {
+        let Some(composition) = self.parts.composition else {
             return 0;
         };
-        let idle = self.raster.idle_clocks(&composition);
-        let drawn = self.raster.drawn_clocks(&composition, self.cursor, idle);
+        let idle = self.parts.raster.idle_clocks(&composition);
+        let drawn = self
+            .parts
+            .raster
+            .drawn_clocks(&composition, self.parts.cursor, idle);
         let n = clocks_ahead(calls, drawn);
         if n == 0 {
             return 0;
         }
-        self.raster
-            .put_words(&composition, self.cursor, self.flags.ir, n, answers);
+        self.parts.raster.put_words(
+            &composition,
+            self.parts.cursor,
+            self.parts.flags.ir,
+            n,
+            answers,
+        );
         source.wait(n as u32);
-        self.raster.idle(n);
+        self.parts.raster.idle(n);
         n as usize
     }
 
@@ -133,15 +113,15 @@ impl Console {
         ensures frames { FrameLaw }
     {
         answers.reserve(calls.len())?;
-        let mut i = 0;
-        while i < calls.len() {
-            let idle = self.idle(source, &calls[i..], answers);
-            if idle == 0 {
-                self.record(source, calls[i], answers);
-                i += 1;
+        let mut rest = calls;
+        while let Some((&call, behind)) = rest.split_first() {
+            let idle = self.idle(source, rest, answers);
+            rest = if idle == 0 {
+                self.record(source, call, answers);
+                behind
             } else {
-                i += idle;
-            }
+                &rest[idle..]
+            };
         }
         Ok(())
     }

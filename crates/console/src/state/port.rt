@@ -1,32 +1,34 @@
 // The ports: commands and parameters written, status and parameters read.
 ghost use Rattle.std.specs.Prelude.{◌≡◌, ℕ, true};
-ghost use Rattle.video.specs.Picture.{bit};
-ghost use Rattle.frame.specs.Ports.{new, is_command, command_refusal, preset, obeyed, commanded, parameter_refusal, parameter_written, status_byte, status_read, parameter_byte, parameter_read};
+ghost use Rattle.frame.specs.Ports.{new, is_command, command_refusal, awaits_write, preset, obeyed, commanded, parameter_refusal, parameter_written, status_byte, status_read, parameter_byte, parameter_read};
 ghost use Rattle.console.specs.Model.{state_of};
 ghost use Rattle.console.specs.Answers.{answer};
 
-use crate::raster::Raster;
+use crate::raster::{Beam, Raster};
 use crate::state::Console;
+use crate::state::parts::Parts;
 use frame::burst::Burst;
 use frame::flags::Flags;
 use frame::pending::Pending;
 use refusal::Refusal;
-use rows::burst::BurstSize;
+use std::mem;
 use video::composition::Composition;
-
-fn bit(b: bool) -> u8
-    ensures { result ≡ bit b }
-{
-    if b { 1 } else { 0 }
-}
+use video::parameters::ResetParameters;
 
 fn is_command(byte: u8) -> bool
     ensures { result ≡ is_command byte }
 {
-    match byte {
-        0x00 | 0x20..=0x40 | 0x60 | 0x80 | 0xA0 | 0xC0 | 0xE0 => true,
-        _ => false,
-    }
+    matches!(byte, 0x00 | 0x20..=0x40 | 0x60 | 0x80 | 0xA0 | 0xC0 | 0xE0)
+}
+
+// A written parameter is outstanding.
+fn awaits_write(pending: Pending) -> bool
+    ensures { result ≡ awaits_write pending }
+{
+    !matches!(
+        pending,
+        Pending::Nothing | Pending::PenColumn | Pending::PenRow
+    )
 }
 
 impl Console {
@@ -34,25 +36,19 @@ impl Console {
     pub fn new() -> Console
         ensures { state_of result ≡ new }
     {
+        let raster = Raster::new();
         Console {
-            composition: None,
-            pending: Pending::Nothing,
-            ve: false,
-            ie: false,
-            burst: Burst {
-                size: BurstSize::One,
-                space: 0,
+            parts: Parts {
+                composition: None,
+                pending: Pending::Nothing,
+                ve: false,
+                ie: false,
+                burst: raster.burst,
+                cursor: None,
+                raster,
+                flags: Flags::default(),
+                pen: (0, 0),
             },
-            cursor: None,
-            raster: Raster::new(),
-            flags: Flags {
-                ir: false,
-                lp: false,
-                ic: false,
-                du: false,
-                fo: false,
-            },
-            pen: (0, 0),
         }
     }
 
@@ -61,13 +57,11 @@ impl Console {
         ensures answer { result ≡ answer (command_refusal byte) }
         ensures state { state_of self.new ≡ commanded (state_of self.old) byte }
     {
-        let missed = match (self.pending, byte) {
+        match (self.parts.pending, byte) {
             (_, byte) if !is_command(byte) => return Err(Refusal::UnknownCommand),
-            (Pending::Nothing | Pending::PenColumn | Pending::PenRow, _) => false,
-            _ => true,
-        };
-        self.flags.ic = self.flags.ic | missed;
-        self.pending = Pending::Nothing;
+            (pending, _) => self.parts.flags.ic |= awaits_write(pending),
+        }
+        self.parts.pending = Pending::Nothing;
         self.obey(byte);
         Ok(())
     }
@@ -79,25 +73,25 @@ impl Console {
     {
         match byte {
             0x00 => {
-                self.pending = Pending::Reset1;
-                self.ve = false;
-                self.ie = false;
-                self.flags.ir = false;
-                self.raster.disarm();
+                self.parts.pending = Pending::Reset1;
+                self.parts.ve = false;
+                self.parts.ie = false;
+                self.parts.flags.ir = false;
+                self.parts.raster.disarm();
             }
             0x20..=0x3F => {
-                self.ve = true;
-                self.ie = true;
-                self.burst = Burst::from_command(byte);
+                self.parts.ve = true;
+                self.parts.ie = true;
+                self.parts.burst = Burst::from_command(byte);
             }
             0x40 => {
-                self.ve = false;
-                self.raster.disarm();
+                self.parts.ve = false;
+                self.parts.raster.disarm();
             }
-            0x60 => self.pending = Pending::PenColumn,
-            0x80 => self.pending = Pending::CursorColumn,
-            0xA0 => self.ie = true,
-            0xC0 => self.ie = false,
+            0x60 => self.parts.pending = Pending::PenColumn,
+            0x80 => self.parts.pending = Pending::CursorColumn,
+            0xA0 => self.parts.ie = true,
+            0xC0 => self.parts.ie = false,
             _ => self.preset(),
         }
     }
@@ -106,9 +100,9 @@ impl Console {
     fn preset(&mut self)
         ensures { state_of self.new ≡ preset (state_of self.old) }
     {
-        self.raster.disarm();
-        if let Some(_) = self.composition {
-            self.raster.move_to(1);
+        self.parts.raster.disarm();
+        if self.parts.composition.is_some() {
+            self.parts.raster.beam.move_to(1);
         }
     }
 
@@ -117,25 +111,31 @@ impl Console {
         ensures answer { result ≡ answer (parameter_refusal (state_of self.old) byte) }
         ensures state { state_of self.new ≡ parameter_written (state_of self.old) byte }
     {
-        match (self.pending, byte) {
+        match (self.parts.pending, byte) {
             (Pending::Reset1, first) if first % 128 > 79 => return Err(Refusal::TooManyColumns),
-            (Pending::Reset1, first) => self.pending = Pending::Reset2(first),
-            (Pending::Reset2(first), second) => self.pending = Pending::Reset3(first, second),
-            (Pending::Reset3(first, second), third) => self.pending = Pending::Reset4(
+            (Pending::Reset1, first) => self.parts.pending = Pending::Reset2(first),
+            (Pending::Reset2(first), second) => self.parts.pending = Pending::Reset3(first, second),
+            (Pending::Reset3(first, second), third) => self.parts.pending = Pending::Reset4(
                 first, second, third,
             ),
             (Pending::Reset4(first, second, third), fourth) => {
-                let composition = Composition::from_parameters(first, second, third, fourth)?;
-                self.pending = Pending::Nothing;
-                self.composition = Some(composition);
-                self.raster.restart();
+                let composition = Composition::try_from(ResetParameters {
+                    first,
+                    second,
+                    third,
+                    fourth,
+                })?;
+                self.parts.pending = Pending::Nothing;
+                self.parts.composition = Some(composition);
+                self.parts.raster.beam = Beam::default();
             }
-            (Pending::CursorColumn, column) => self.pending = Pending::CursorRow(column),
+            (Pending::CursorColumn, column) => self.parts.pending = Pending::CursorRow(column),
             (Pending::CursorRow(column), row) => {
-                self.pending = Pending::Nothing;
-                self.cursor = Some((column, row));
+                self.parts.pending = Pending::Nothing;
+                self.parts.cursor = Some((column, row));
             }
-            (Pending::Nothing | Pending::PenColumn | Pending::PenRow, _) => self.flags.ic = true,
+            (Pending::Nothing | Pending::PenColumn | Pending::PenRow, _) => self.parts.flags.ic =
+                true,
         }
         Ok(())
     }
@@ -145,21 +145,14 @@ impl Console {
         ensures byte { result ≡ status_byte (state_of self.old) }
         ensures state { state_of self.new ≡ status_read (state_of self.old) }
     {
-        let flags = self.flags;
-        self.flags = Flags {
-            ir: false,
-            lp: false,
-            ic: false,
-            du: false,
-            fo: false,
-        };
-        0x40 * bit(self.ie)
-            + 0x20 * bit(flags.ir)
-            + 0x10 * bit(flags.lp)
-            + 0x08 * bit(flags.ic)
-            + 0x04 * bit(self.ve)
-            + 0x02 * bit(flags.du)
-            + bit(flags.fo)
+        let flags = mem::take(&mut self.parts.flags);
+        0x40 * u8::from(self.parts.ie)
+            + 0x20 * u8::from(flags.ir)
+            + 0x10 * u8::from(flags.lp)
+            + 0x08 * u8::from(flags.ic)
+            + 0x04 * u8::from(self.parts.ve)
+            + 0x02 * u8::from(flags.du)
+            + u8::from(flags.fo)
     }
 
     // A byte read from the parameter port.
@@ -167,17 +160,17 @@ impl Console {
         ensures byte { result ≡ parameter_byte (state_of self.old) }
         ensures state { state_of self.new ≡ parameter_read (state_of self.old) }
     {
-        match self.pending {
+        match self.parts.pending {
             Pending::PenColumn => {
-                self.pending = Pending::PenRow;
-                self.pen.0
+                self.parts.pending = Pending::PenRow;
+                self.parts.pen.0
             }
             Pending::PenRow => {
-                self.pending = Pending::Nothing;
-                self.pen.1
+                self.parts.pending = Pending::Nothing;
+                self.parts.pen.1
             }
             _ => {
-                self.flags.ic = true;
+                self.parts.flags.ic = true;
                 0
             }
         }

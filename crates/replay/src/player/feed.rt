@@ -5,10 +5,9 @@ ghost use Rattle.frame.specs.declared.call.Call.TheVariants.{Clock};
 ghost use Rattle.replay.specs.Prints.{new, said, next, ended, at_end, Fed, FedSome, Untouched};
 ghost use Rattle.replay.specs.Model.{stage_of, held_of};
 
+use crate::digits::LONGEST_LINE;
 use crate::machine::Machine;
 use crate::player::Player;
-use crate::prints::{put_answers_to, put_verdict};
-use crate::requests::LONGEST_LINE;
 use frame::call::Call;
 use refusal::Refusal;
 use std::alloc::{AllocError, Global};
@@ -18,15 +17,12 @@ const LAST_LINE: u16 = 65_535;
 // The words of as many clocks as one line can ask for, or a fault.
 const LONGEST_ANSWER: usize = 589_828;
 
-// Made once, so that the clocks of a line are a part of it.
+// As many clocks as one line can ask for, made once: the clocks of a line are a part of them. Apart from `Player::new`, since with
+// this inside it the check of a wrong body ends without an answer.
 fn many_clocks(heap: Global) -> Result<Vec<Call>, AllocError>
     ensures { IfOk result (λ v. v.items ≡ replicate 65535 Clock) }
 {
-    let mut clocks = Vec::with_capacity(heap, u16::MAX as usize)?;
-    for i in 0..u16::MAX {
-        clocks.push_reserved(Call::Clock);
-    }
-    Ok(clocks)
+    vec![in heap; Call::Clock; u16::MAX as usize]
 }
 
 impl Player {
@@ -46,6 +42,7 @@ impl Player {
     }
 
     // The line that is held has ended. Room for the longest answer is made first, so that want of memory alters nothing.
+    #[tactic(auto, unfolding(crate::specs::Prints::said, crate::specs::Prints::next))]
     fn play_line(&mut self, out: &mut Vec<u8>) -> Result<(), Refusal>
         ensures { MatchResult result
             (λ _. (out.new.items ≡ out.old.items ++ said (stage_of self.old) (held_of self.old))
@@ -53,20 +50,19 @@ impl Player {
             (λ e. (e ≡ OutOfMemory) × Untouched (stage_of self.old) (held_of self.old) out.old.items
             (stage_of self.new) (held_of self.new) out.new.items) }
     {
-        if self.number >= LAST_LINE {
+        if self.number == LAST_LINE {
             return Ok(());
         }
         out.reserve(LONGEST_ANSWER)?;
-        let request = self
-            .machine
-            .follow(self.held.as_slice(), self.clocks.as_slice())?;
-        let verdict = put_answers_to(request, self.machine.answers(), out);
-        self.number += 1;
-        put_verdict(verdict, self.number, out);
+        let number = self.number + 1;
+        self.machine
+            .follow(self.held.as_slice(), number, self.clocks.as_slice(), out)?;
+        self.number = number;
         Ok(())
     }
 
     // One byte of the text. A line too long needs no more than its first 67 characters to be told.
+    #[tactic(auto, using(crate::proofs::Feeding::fed_behind), unfolding(crate::specs::Prints::printed_from))]
     fn feed_byte(&mut self, byte: u8, out: &mut Vec<u8>) -> Result<(), Refusal>
         ensures { MatchResult result
             (λ _. Fed (stage_of self.old) (held_of self.old) (byte ∷ []) out.old.items

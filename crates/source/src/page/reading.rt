@@ -49,10 +49,7 @@ impl Page {
         ensures page { bytes_of self.new ≡ bytes_of self.old }
         ensures rest { rest_of self.new ≡ behind_first (rest_of self.old) }
     {
-        if self.at >= self.bytes.len() {
-            return None;
-        }
-        let byte = self.bytes[self.at];
+        let byte = self.bytes.get(self.at).copied()?;
         self.at += 1;
         Some(byte)
     }

@@ -1,38 +1,30 @@
 // A composition from the four parameters of Reset.
-ghost use Rattle.std.specs.Prelude.{◌≡◌, ℕ, ◌+◌, ◌*◌, ◌/◌, ◌%◌, ◌<◌, ◌≤◌, true, false, IfOk, MatchResult};
-ghost use Rattle.refusal.specs.declared.Refusal.TheVariants.{TooManyColumns};
-ghost use Rattle.video.specs.Composition.{Proper, allowed, composed, cursor_format, shape_of, line_count};
+ghost use Rattle.std.specs.Prelude.{◌≡◌, ℕ};
 
 use crate::composition::Composition;
 use crate::format::CursorFormat;
+use crate::parameters::ResetParameters;
 use refusal::Refusal;
 
-fn cursor_format(code: u8) -> CursorFormat
-    ensures { result ≡ cursor_format code }
-{
-    match code {
-        0 => CursorFormat::BlinkingBlock,
-        1 => CursorFormat::BlinkingUnderline,
-        2 => CursorFormat::Block,
-        _ => CursorFormat::Underline,
-    }
-}
+impl TryFrom<ResetParameters> for Composition {
+    ghost use Rattle.video.specs.Composition.{Composes};
 
-impl Composition {
-    // The composition that four parameters ask for.
-    pub fn from_parameters(
-        first: u8,
-        second: u8,
-        third: u8,
-        fourth: u8,
-    ) -> Result<Composition, Refusal>
-        ensures composed { MatchResult result (λ c. (allowed first ≡ true) × (shape_of c ≡ composed first second third fourth)) (λ e. (allowed first ≡ false) × (e ≡ TooManyColumns)) }
-        ensures proper { IfOk result (λ c. Proper (shape_of c)) }
-    {
+    type Error = Refusal;
+
+    ghost try_from_gives = { Composes };
+
+    // The composition that the four parameters ask for.
+    fn try_from(parameters: ResetParameters) -> Result<Composition, Refusal> {
+        let ResetParameters {
+            first,
+            second,
+            third,
+            fourth,
+        } = parameters;
         if first % 128 > 79 {
             return Err(Refusal::TooManyColumns);
         }
-        let cursor = cursor_format(fourth / 16 % 4);
+        let cursor = CursorFormat::from_code(fourth / 16 % 4);
         Ok(Composition {
             columns: first % 128 + 1,
             retrace: 2 * (fourth % 16) + 2,
@@ -45,6 +37,17 @@ impl Composition {
             spaced: first >= 128,
             cursor,
         })
+    }
+}
+
+impl Composition {
+    ghost use Rattle.video.specs.Composition.{shape_of, width, line_count};
+
+    // The clocks of a line.
+    pub fn width(&self) -> u8
+        ensures { result ≡ width (shape_of self.now) }
+    {
+        self.columns + self.retrace
     }
 
     // The line count that a line puts out.

@@ -1,33 +1,28 @@
-use Rattle.std.proofs.Common.{List, vec_items, sym, ap, ◌∙◌, arith}
-use Rattle.source.specs.declared.stalls.Span.{Span}
-use Rattle.arguments.specs.Buses.{spans_of}
-use Rattle.arguments.proofs.Spans.{ahead, ahead_none, spans_none, spans_read, spans_all}
+use Rattle.std.proofs.Common.{ap, map, sym, ◌∙◌, Some, rules, tests}
+use Rattle.std.specs.Bool.{◌==◌}
+use Rattle.std.proofs.lemmas.List.{map-append}
+use Rattle.std.proofs.lemmas.Iterator.Splits.{YieldsList-from_slice_split}
+use Rattle.std.proofs.lemmas.Iterator.Consumers.{YieldsList-at, YieldsList-turn, YieldsList-end}
+use Rattle.arguments.specs.Buses.{spans_in}
+use Rattle.arguments.proofs.Spans.{spans_more, spans_none}
 use Rattle.arguments.proofs.bus.read_spans.Goals as goal
-
-pub loop-span-init : goal.loop-span-init
-loop-span-init c =
-    (omega arith, ap (λ (x : List Span). ahead x (spans_of c.args.text.now)) c.new-spans.ensures.items ∙ ahead_none (spans_of c.args.text.now))
-
-pub loop-span-preserved : goal.loop-span-preserved
-loop-span-preserved c =
-    let i = c.loop-span.invariant in
-    let k = c.behind-rest.ensures.shorter in
-    let b = c.before-comma.ensures.inside in
-    let d = c.if-comma-rest.false in (
-      omega arith,
-      spans_read (vec_items c.loop-span.spans) (vec_items c.push.new.self) c.loop-span.rest.now c.behind-rest.result.now c.args.text.now
-          c.before-comma.result _ c.before-comma.ensures.value (omega arith) c.behind-rest.ensures.value
-          c.in-Some.ensures c.in_ok-push.ensures.items i.1,
-    )
 
 pub returns-in_default : goal.returns-in_default
 returns-in_default c =
-    sym c.loop-span.invariant.1
-    ∙ ap (ahead (vec_items c.loop-span.spans))
-    (spans_none c.loop-span.rest.now c.before-comma.result c.before-comma.ensures.value c.before-comma.ensures.inside c.in_default.ensures)
+    let t = YieldsList-turn
+    (YieldsList-at c.into_iter-part-iterator.ensures.into_iter_gives
+    (YieldsList-from_slice_split _ (λ b. b == 44) c.args.text.now c.split-part-items.ensures.rest c.split-part-items.ensures.done c.split-part-items.ensures.closure (λ x b q k. search (rules, tests))))
+    c.loop-part.yielded _ c.loop-part.yielded_by _ _ c.in-Some.part c.in-Some.is c.next.ensures.steps in
+    spans_none _ _ _ t.0 t.1 c.in_default.ensures
 
-pub returns-then-comma-rest : goal.returns-then-comma-rest
-returns-then-comma-rest c =
-    spans_all (vec_items c.loop-span.spans) (vec_items c.push.new.self) c.loop-span.rest.now c.args.text.now
-    c.before-comma.result _ c.before-comma.ensures.value c.if-comma-rest.true
-    c.in-Some.ensures c.in_ok-push.ensures.items c.loop-span.invariant.1
+pub loop-part-preserved : goal.loop-part-preserved
+loop-part-preserved c =
+    ap spans_in (map-append _ c.loop-part.yielded _) ∙ (spans_more (map (λ p. p.now) c.loop-part.yielded) c.in-Some.part.now _ _ c.loop-part.invariant c.in-Some-span.ensures ∙ ap Some (sym c.in_ok-push.ensures.items))
+
+pub returns : goal.returns
+returns c =
+    let e = YieldsList-end
+    (YieldsList-at c.into_iter-part-iterator.ensures.into_iter_gives
+    (YieldsList-from_slice_split _ (λ b. b == 44) c.args.text.now c.split-part-items.ensures.rest c.split-part-items.ensures.done c.split-part-items.ensures.closure (λ x b q k. search (rules, tests))))
+    c.loop-part.yielded _ c.loop-part.yielded_by _ _ c.in-None.is c.next.ensures.steps in
+    ap spans_in (sym e.0) ∙ c.loop-part.invariant

@@ -1,11 +1,7 @@
-use Rattle.std.proofs.Common.{◌≡◌, ◌≤◌, length, vec_items}
-use Rattle.arguments.specs.Buses.{spans_of}
-use Rattle.arguments.proofs.Spans.{spans_behind}
+use Rattle.std.proofs.Common.{◌≡◌, map, Some, vec_items}
+use Rattle.arguments.specs.Buses.{spans_in}
 use Rattle.arguments.proofs.bus.read_spans.Given as goal
 
--- the spans so far ahead of those of the rest are all
-abbrev pub invariant-loop-span : goal.invariant-loop-span
-invariant-loop-span l = (length l.rest ≤ length l.text) × (spans_behind (vec_items l.spans) l.rest ≡ spans_of l.text)
-
-abbrev pub decreases-loop-span : goal.decreases-loop-span
-decreases-loop-span l = length l.rest
+-- the spans so far are those of the pieces so far
+abbrev pub invariant-loop-part : goal.invariant-loop-part
+invariant-loop-part l = spans_in (map (λ p. p.now) l.yielded) ≡ Some (vec_items l.spans)

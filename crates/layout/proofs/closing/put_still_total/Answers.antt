@@ -1,11 +1,16 @@
-use Rattle.std.proofs.Common.{vec_items, ◌∙◌}
-use Rattle.layout.proofs.Appends.{next}
+use Rattle.std.proofs.Common.{◌≡◌, ℕ, ◌-◌, List, ◌++◌, ap, ◌∙◌, codes, decimal, append_assoc}
+use Rattle.std.proofs.lemmas.Result.{on_ok_weaker}
+use Rattle.layout.specs.Closing.{still_total}
+use Rattle.layout.proofs.Aligned.{no_width}
 use Rattle.layout.proofs.closing.put_still_total.Goals as goal
+
+total : (shown rows used page left : ℕ) → left ≡ page - used
+    → decimal shown ++ (codes " of " ++ (decimal rows ++ (codes " rows shown, " ++ (decimal used ++ (codes " of " ++ (decimal page ++ (codes " bytes of the page used, " ++ (decimal left ++ codes " left\n"))))))))
+    ≡ still_total shown rows used page
+total shown rows used page left e = simp (e, no_width, append_assoc)
 
 pub returns : goal.returns
 returns c =
-    next (vec_items c.args.out.now) _ _ c.in_ok-put_count.ensures
-    (next (vec_items c.put_count.new.out) _ _ c.in_ok-put_count-2.ensures
-    (next (vec_items c.put_count-2.new.out) _ _ c.in_ok-put_count-3.ensures
-    (next (vec_items c.put_count-3.new.out) _ _ c.in_ok-put_count-4.ensures c.in_ok-put_count-5.ensures)))
-    ∙ simp c.left.ensures
+    on_ok_weaker c.put.result
+    (λ e. e ∙ ap (λ (x : List ℕ). c.args.out.now.items ++ x) (total c.args.shown c.args.rows c.args.used c.args.page c.saturating_sub-left.result c.saturating_sub-left.ensures))
+    c.put.ensures

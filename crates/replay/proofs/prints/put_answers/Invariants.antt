@@ -1,4 +1,5 @@
-use Rattle.std.proofs.Common.{◌≡◌, ◌+◌, ◌*◌, ◌≤◌, ◌++◌, drop, vec_items, vec_len, vec_capacity}
+use Rattle.std.proofs.Common.{◌≡◌, ◌*◌, ◌++◌, drop, vec_items}
+use Rattle.replay.specs.Digits.{Takes}
 use Rattle.replay.specs.Prints.{texts, outcome}
 use Rattle.replay.proofs.prints.put_answers.Given as goal
 
@@ -7,5 +8,4 @@ abbrev pub invariant-loop-answer : goal.invariant-loop-answer
 invariant-loop-answer l =
     (vec_items l.out ++ texts (drop l.answer-index l.answers) ≡ vec_items l.initial.out ++ texts l.answers)
     × (outcome (drop l.answer-index l.answers) ≡ outcome l.answers)
-    × (vec_len l.out ≤ vec_len l.initial.out + 9 * l.answer-index)
-    × (vec_capacity l.out ≡ vec_capacity l.initial.out)
+    × Takes l.initial.out l.out (9 * l.answer-index)

@@ -1,22 +1,9 @@
-use Rattle.std.proofs.Common.{◌≡◌, ℕ, List, [], ◌∷◌, ◌++◌, vec_items, ap, ◌∙◌}
-use Rattle.replay.specs.Digits.{two, four}
-use Rattle.replay.specs.Prints.{fault_line}
-use Rattle.replay.specs.Faults.{layer, number_of, column_of}
-use Rattle.replay.proofs.Joins.{six}
+use Rattle.std.proofs.Common.{List, ℕ, ◌++◌, ap, ◌∙◌, unwrap_or, arith}
+use Rattle.replay.proofs.Joins.{fault_bytes}
 use Rattle.replay.proofs.prints.put_fault.Goals as goal
 
-at : (o : List ℕ) {x y : ℕ} → x ≡ y → o ++ two x ≡ o ++ two y
-at o e = ap (λ (x : ℕ). o ++ two x) e
-
 pub returns : goal.returns
-unfolding fault_line
 returns c =
-    record {
-      items = six (vec_items c.args.out.now) (two 0xFF) (two (layer c.args.fault)) (two (number_of c.args.fault)) (four c.args.number) (two (column_of c.args.fault)) (10 ∷ [])
-          c.put_two.ensures.items
-          (c.put_two-2.ensures.items ∙ at _ c.layer.ensures)
-          (c.put_two-3.ensures.items ∙ at _ c.number.ensures)
-          c.put_four.ensures.items
-          (c.put_two-4.ensures.items ∙ at _ c.column.ensures)
-          c.push_reserved.ensures.items;
-    }
+    let column = c.unwrap_or-column.ensures ∙ ap (λ o. unwrap_or o 0) c.column.ensures in
+    let text = fault_bytes c.args.fault c.args.number _ _ _ _ (omega (arith, c.ranges.number.fits)) c.layer.ensures c.number.ensures c.to_be_bytes.ensures column in
+    record { items = c.put_line.ensures.items ∙ ap (λ (t : List ℕ). c.args.out.now.items ++ t) text }

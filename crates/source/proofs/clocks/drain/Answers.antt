@@ -7,9 +7,9 @@ loop-place-preserved g c =
     let i = c.loop-place.place-index in
     let n = length c.args.came.now in
     let m = g.S.Source.means c.loop-place.source in
-    let m' = g.S.Source.means c.ask.new.source in (
-      one_more c.loop-place.came i n c.ask.result m m' _ c.loop-place-test.true c.loop-place.auto.came c.ask.ensures.byte c.ask.ensures.after c.loop-place.invariant.0,
-      one_less i n m m' _ c.loop-place-test.true c.ask.ensures.after c.loop-place.invariant.1,
+    let m' = g.S.Source.means c.clock.new.self in (
+      one_more c.loop-place.came i n c.clock.result m m' _ c.loop-place-test.true c.loop-place.auto.came c.clock.ensures.byte c.clock.ensures.after c.loop-place.invariant.0,
+      one_less i n m m' _ c.loop-place-test.true c.clock.ensures.after c.loop-place.invariant.1,
     )
 
 pub returns : goal.returns

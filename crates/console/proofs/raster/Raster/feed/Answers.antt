@@ -8,5 +8,5 @@ pub returns-in-Some : goal.returns-in-Some
 returns-in-Some c =
     record {
       core = fed_some (shape_of c.args.composition.now) (core_of c.args.self.now) c.args.came c.in-Some.b _ _ c.requires c.in-Some.is c.store.ensures c.pause-self.ensures;
-      stays = (refl, refl, refl, refl);
+      stays = refl;
     }

@@ -1,16 +1,14 @@
-use Rattle.std.proofs.Common.{◌∙◌}
-use Rattle.video.specs.Composition.{shape_of}
-use Rattle.console.specs.Model.{state_of}
+use Rattle.std.proofs.Common.{◌∙◌, ap}
+use Rattle.film.specs.declared.log.RowTime.{RowTime}
 use Rattle.film.proofs.Lates.{late_granted, late_refused}
 use Rattle.film.proofs.film.Film.is_late.Goals as goal
 
 pub returns-in-Ok : goal.returns-in-Ok
 returns-in-Ok c =
-    late_granted (shape_of c.args.self.now.screen.composition) (state_of c.args.self.now.screen.console) c.args.page.now c.args.log.now c.args.row
-    c.bytes-came.result _ c.in-Ok.window.bytes.now c.requires.composed c.in-Ok.ensures c.bytes-came.ensures
+    late_granted c.args.self.now.screen c.args.page.now c.args.log.now c.args.row c.row-came.result.bytes _ c.in-Ok.window.bytes.now
+    c.args.self.now.screen.composed c.in-Ok.ensures (ap (λ (t : RowTime). t.bytes) c.row-came.ensures)
 
 pub returns-in-Err : goal.returns-in-Err
 returns-in-Err c =
     c.is_page_end.ensures
-    ∙ late_refused (shape_of c.args.self.now.screen.composition) (state_of c.args.self.now.screen.console) c.args.page.now c.args.log.now c.args.row
-    c.in-Err.refusal c.requires.composed c.in-Err.ensures
+    ∙ late_refused c.args.self.now.screen c.args.page.now c.args.log.now c.args.row c.in-Err.refusal c.args.self.now.screen.composed c.in-Err.ensures

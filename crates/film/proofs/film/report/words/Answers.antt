@@ -1,11 +1,11 @@
-use Rattle.std.proofs.Common.{vec_items, sym, ◌∙◌}
-use Rattle.film.proofs.Answered.{words_more, words_end}
+use Rattle.std.proofs.Common.{rules, tests}
+use Rattle.std.proofs.lemmas.Iterator.{items_from_collect, YieldsList-from_slice}
+use Rattle.std.proofs.lemmas.Iterator.Consumers.{YieldsList-from_filter_map}
+use Rattle.film.specs.FrameRows.{word_of}
+use Rattle.film.proofs.Answered.{words_are}
 use Rattle.film.proofs.film.report.words.Goals as goal
 
-pub loop-answer-preserved : goal.loop-answer-preserved
-loop-answer-preserved c =
-    words_more c.args.answers.now c.loop-answer.answer-index _ (vec_items c.loop-answer.words) (vec_items c.put_word.new.out)
-    c.loop-answer-test.true c.in_ok-put_word.ensures ∙ c.loop-answer.invariant
-
 pub returns : goal.returns
-returns c = sym (words_end c.args.answers.now c.loop-answer.answer-index (vec_items c.loop-answer.words) c.loop-answer-test.false) ∙ c.loop-answer.invariant
+returns c =
+    rw (words_are c.args.answers.now)
+    (items_from_collect _ c.collect.ensures.ran (YieldsList-from_filter_map _ word_of (YieldsList-from_slice c.args.answers.now cc) c.filter_map.ensures.closure (λ x r q k. search (rules, tests))))

@@ -1,24 +1,8 @@
 use Rattle.std.proofs.Common.{vec_items}
 use Rattle.std.proofs.lemmas.Result.{err_from_is_err_and}
 use Rattle.replay.specs.Model.{stage_of, held_of}
-use Rattle.replay.proofs.Feeding.{fed_more, fed_all, fed_none, fed_kept}
+use Rattle.replay.proofs.Feeding.{fed_kept}
 use Rattle.replay.proofs.player.Player.feed.Goals as goal
-
-pub loop-byte-init : goal.loop-byte-init
-loop-byte-init c = fed_none (stage_of c.args.self.now) (held_of c.args.self.now) (vec_items c.args.out.now)
-
-pub loop-byte-preserved : goal.loop-byte-preserved
-loop-byte-preserved c =
-    let l = c.loop-byte in
-    fed_more (stage_of c.args.self.now) (stage_of l.self) (stage_of c.feed_byte.new.self) (held_of c.args.self.now) (held_of l.self) (held_of c.feed_byte.new.self)
-    (vec_items c.args.out.now) (vec_items l.out) (vec_items c.feed_byte.new.out) c.args.part.now l.byte-index
-    c.loop-byte-test.true c.in_ok-feed_byte.ensures l.invariant
-
-pub returns : goal.returns
-returns c =
-    let l = c.loop-byte in
-    fed_all (stage_of c.args.self.now) (stage_of l.self) (held_of c.args.self.now) (held_of l.self) (vec_items c.args.out.now) (vec_items l.out) c.args.part.now l.byte-index
-    c.loop-byte-test.false l.invariant
 
 pub returns-in_err-feed_byte : goal.returns-in_err-feed_byte
 returns-in_err-feed_byte c =

@@ -1,8 +1,0 @@
-use Rattle.std.proofs.Common.{vec_items, ◌∙◌}
-use Rattle.layout.proofs.Appends.{next}
-use Rattle.layout.proofs.picture.put_behind.Goals as goal
-
-pub returns : goal.returns
-returns c =
-    next (vec_items c.args.out.now) _ _ c.in_ok-extend_from_slice.ensures.items c.in_ok-extend_from_slice-2.ensures.items
-    ∙ simp c.lead_to.ensures

@@ -1,5 +1,0 @@
-use Rattle.std.proofs.Common.{append_assoc, arith, rules}
-use Rattle.replay.proofs.digits.put_four.Goals as goal
-
-pub returns : goal.returns
-returns c = record { items = simp (c.put_two-2.ensures.items, c.put_two.ensures.items, append_assoc); len = omega arith; cap = search rules }

@@ -1,5 +1,0 @@
-use Rattle.source.proofs.Rounds.{turn_waits}
-use Rattle.source.proofs.cycle.Cycle.wait.Goals as goal
-
-pub returns : goal.returns
-returns c = let cycle = c.args.self.now in turn_waits cycle.free cycle.busy cycle.gone c.args.clocks
