@@ -5,13 +5,14 @@ ghost use Rattle.layout.specs.Numbers.{right, hex};
 use nibble::write;
 use std::alloc::AllocError;
 use std::fmt::Display;
+use std::io::Write;
 
 // A text behind what is listed so far.
 pub(crate) fn put<D: Display + Drop>(text: D, out: &mut Vec<u8>) -> Result<(), AllocError>
     ensures { OnOk result (IfSome (D.output text) (λ bs. out.new.items ≡ out.old.items ++ bs)) }
 {
-    let text = String::format(*out.allocator(), text)?;
-    out.extend_from_slice(text.as_bytes())
+    // Numbers and words never fail to print, and a `Vec` refuses bytes for want of memory alone.
+    out.write_fmt(text).map_err(|_| AllocError)
 }
 
 // A number in decimal digits, behind as many spaces as make it `width` characters.

@@ -5,6 +5,7 @@ ghost use Rattle.std.specs.Prelude.{◌≡◌, ℕ, ◌%◌, ◌<◌, IfSome};
 ghost use Rattle.nibble.specs.Digits.{value, upper, byte_of};
 
 // The value of a digit, 0 to 9 and A to F.
+#[inline]
 pub fn read(c: u8) -> Option<u8>
     ensures value { result ≡ value c }
     ensures small { IfSome result (λ v. v < 16) }
@@ -17,6 +18,7 @@ pub fn read(c: u8) -> Option<u8>
 }
 
 // The digit of the low four bits.
+#[inline]
 pub fn write(value: u8) -> u8
     ensures { result ≡ upper (value % 16) }
 {
@@ -27,6 +29,7 @@ pub fn write(value: u8) -> u8
 }
 
 // The byte of two digits.
+#[inline]
 pub fn byte(high: u8, low: u8) -> Option<u8>
     ensures { result ≡ byte_of high low }
 {

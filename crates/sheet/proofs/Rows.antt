@@ -7,7 +7,7 @@ use Rattle.rows.specs.Page.{blank, window}
 use Rattle.rows.specs.Refusals.{window_refusal}
 use Rattle.rows.specs.Laws.{Windowed}
 use Rattle.frame.specs.Ports.{State}
-use Rattle.console.specs.Answers.{WindowOf}
+use Rattle.console.specs.Answers.{With, WindowOf}
 use Rattle.console.specs.Model.{state_of}
 use Rattle.layout.specs.Lines.{under, still_heading, still_figures, pictured}
 use Rattle.sheet.specs.Screens.{Composed, row_refused, StoppedRow, Stopped}
@@ -38,6 +38,14 @@ pub windowed : (c : Shape) (s : State) (page : List ℕ) (j place : ℕ) (part :
     → Windowed c s.control.bursts.n page j place part
 windowed c s page j place part e w = rw e at w
 
+few_in : (o : Option Shape) (n : ℕ) (page : List ℕ) (j place : ℕ) (part : List ℕ) → With o (λ c. Windowed c n page j place part) → length part ≤ 16384
+few_in None n page j place part w = absurd w
+few_in (Some c) n page j place part w = rw w.takes (short_window c n page j (short_page c n page j w.granted))
+
+-- a row takes no more bytes than a page may have
+pub few_bytes : (s : State) (page : List ℕ) (j place : ℕ) (part : List ℕ) → WindowOf s page j place part → length part ≤ 16384
+few_bytes s page j place part w = few_in s.shape s.control.bursts.n page j place part w
+
 pub row_listed : (x : Screen) (page : List ℕ) (j place : ℕ) (part still o o₁ o₂ : List ℕ) → Composed x → WindowOf (state_of x.console) page j place part
     → still ≡ still_words x page j → o₁ ≡ o ++ (under still_heading o ++ still_figures j place (length part))
     → o₂ ≡ o₁ ++ row_rest (length part) (pictured still_margin (shape_of x.composition) still) → ListedRow x page j (length part) o o₂
@@ -46,9 +54,7 @@ row_listed x page j place part still o o₁ o₂ e w t p q =
     let k : length part ≡ length (bytes_of x page j) = ap length v.takes in
     record {
       taken = k;
-      few =
-          let z = short_window (shape_of x.composition) (state_of x.console).control.bursts.n page j (short_page (shape_of x.composition) (state_of x.console).control.bursts.n page j v.granted) in
-          omega arith;
+      few = few_bytes (state_of x.console) page j place part w;
       lines =
           behind_heading o (under still_heading o) (still_figures j place (length part)) (row_rest (length part) (pictured still_margin (shape_of x.composition) still)) p q
           ∙ ap (λ (t : List ℕ). o ++ (under still_heading o ++ t)) (rw (v.begins, k, t) refl);

@@ -5,6 +5,7 @@ ghost use Rattle.listing.specs.Firmware.{programmed, programming_refusal};
 ghost use Rattle.refusal.specs.declared.Refusal.TheVariants.{TooManyColumns};
 ghost use Rattle.video.specs.Composition.{allowed, composed, shape_of};
 ghost use Rattle.sheet.specs.Rasters.{row_clocks};
+ghost use Rattle.sheet.specs.Screens.{Composed};
 
 use console::state::Console;
 use listing::firmware::programmed;
@@ -15,14 +16,11 @@ use video::parameters::ResetParameters;
 #[derive(Clone, Copy)]
 pub struct Screen {
     pub console: Console,
+    // that of the console
     pub composition: Composition,
-    // the composition is the console's
-    pub ghost composed: { (state_of console).shape ≡ Some (shape_of composition) },
 }
 
 impl Screen {
-    ghost use Rattle.sheet.specs.Screens.{Composed};
-
     // Reset, the cursor where there is one, and then the Start command.
     pub fn programmed(
         parameters: ResetParameters,

@@ -1,11 +1,11 @@
 // The rows of a page by their stills.
-ghost use Rattle.std.specs.Prelude.{◌≡◌, ◌++◌, MatchResult, OnOk};
+ghost use Rattle.std.specs.Prelude.{◌≡◌, ◌≤◌, ◌++◌, MatchResult, IfOk, OnOk};
 ghost use Rattle.video.specs.Composition.{shape_of};
 ghost use Rattle.console.specs.Answers.{WindowOf};
 ghost use Rattle.console.specs.Model.{state_of};
 ghost use Rattle.listing.specs.Words.{word_lines};
 ghost use Rattle.layout.specs.Lines.{pictured, under, still_heading};
-ghost use Rattle.sheet.specs.Screens.{RefusedRow, StoppedRow, Stopped};
+ghost use Rattle.sheet.specs.Screens.{Composed, RefusedRow, StoppedRow, Stopped};
 ghost use Rattle.sheet.specs.Stills.{still_words, row_rest, still_margin, ListedRow, blank_lines, tally, with_rows, NextRow, with_words, closed, still_listing, alone_listing};
 
 use crate::screen::Screen;
@@ -47,7 +47,7 @@ impl<'a> Stills<'a> {
 
     // The words of a row's still.
     fn words(&self, row: u8) -> Result<Vec<u32>, Stop>
-        ensures { MatchResult result
+        ensures { Composed self.now.screen.now → MatchResult result
             (λ v. v.items ≡ still_words self.now.screen.now self.now.page.now row)
             (λ e. RefusedRow self.now.screen.now self.now.page.now row e) }
     {
@@ -75,7 +75,8 @@ impl<'a> Stills<'a> {
 
     // The lines of a row that is not left blank by spacing, under a heading where it is the first, and the number of its bytes.
     fn put_row(&self, row: u8, out: &mut Vec<u8>) -> Result<usize, Stop>
-        ensures { MatchResult result
+        ensures few { IfOk result (λ n. n ≤ 16384) }
+        ensures listed { Composed self.now.screen.now → MatchResult result
             (λ n. ListedRow self.now.screen.now self.now.page.now row n out.old.items out.new.items)
             (λ e. StoppedRow self.now.screen.now self.now.page.now row e out.old.items out.new.items) }
     {
@@ -101,7 +102,8 @@ impl<'a> Stills<'a> {
 
     // The lines of any row, which begins at a place in the page if it is left blank, and the number of its bytes.
     fn put_any_row(&self, row: u8, place: usize, out: &mut Vec<u8>) -> Result<usize, Stop>
-        ensures { MatchResult result
+        ensures few { IfOk result (λ n. n ≤ 16384) }
+        ensures listed { Composed self.now.screen.now → MatchResult result
             (λ n. NextRow self.now.screen.now self.now.page.now row place n out.old.items out.new.items)
             (λ e. StoppedRow self.now.screen.now self.now.page.now row e out.old.items out.new.items) }
     {
@@ -114,7 +116,7 @@ impl<'a> Stills<'a> {
 
     // The lines of every row, and their tally.
     fn put_rows(&self, out: &mut Vec<u8>) -> Result<Tally, Stop>
-        ensures { let x = self.now.screen.now in let page = self.now.page.now in MatchResult result
+        ensures { let x = self.now.screen.now in let page = self.now.page.now in Composed x → MatchResult result
             (λ t. (t ≡ tally x page x.composition.rows)
             × (out.new.items ≡ with_rows x page out.old.items x.composition.rows))
             (λ e. Stopped x page (with_rows x page out.old.items) e out.new.items) }
@@ -129,7 +131,7 @@ impl<'a> Stills<'a> {
 
     // The words of a row's still, each on a line of its own.
     pub fn put_row_words(&self, row: u8, out: &mut Vec<u8>) -> Result<(), Stop>
-        ensures { MatchResult result
+        ensures { Composed self.now.screen.now → MatchResult result
             (λ _. out.new.items ≡ out.old.items ++ word_lines (still_words self.now.screen.now self.now.page.now row))
             (λ e. StoppedRow self.now.screen.now self.now.page.now row e out.old.items out.new.items) }
     {
@@ -141,7 +143,7 @@ impl<'a> Stills<'a> {
 
     // The words of every row, none of a row left blank by spacing.
     pub fn put_words(&self, out: &mut Vec<u8>) -> Result<(), Stop>
-        ensures { let x = self.now.screen.now in let page = self.now.page.now in MatchResult result
+        ensures { let x = self.now.screen.now in let page = self.now.page.now in Composed x → MatchResult result
             (λ _. out.new.items ≡ with_words x page out.old.items x.composition.rows)
             (λ e. Stopped x page (with_words x page out.old.items) e out.new.items) }
     {
@@ -162,7 +164,7 @@ impl<'a> Stills<'a> {
 
     // The listing of every row.
     pub fn put_stills(&self, out: &mut Vec<u8>) -> Result<(), Stop>
-        ensures { let x = self.now.screen.now in let page = self.now.page.now in MatchResult result
+        ensures { let x = self.now.screen.now in let page = self.now.page.now in Composed x → MatchResult result
             (λ _. out.new.items ≡ still_listing x page out.old.items)
             (λ e. Stopped x page (with_rows x page out.old.items) e out.new.items) }
     {
@@ -173,7 +175,7 @@ impl<'a> Stills<'a> {
 
     // The listing of one row.
     pub fn put_still(&self, row: u8, out: &mut Vec<u8>) -> Result<(), Stop>
-        ensures { MatchResult result
+        ensures { Composed self.now.screen.now → MatchResult result
             (λ _. out.new.items ≡ alone_listing self.now.screen.now self.now.page.now row out.old.items)
             (λ e. StoppedRow self.now.screen.now self.now.page.now row e out.old.items out.new.items) }
     {

@@ -76,6 +76,7 @@ fn stretch_from(spans: &[Span], clock: u32) -> Stretch
     requires { all_small spans.now ≡ true }
     ensures now { busy_in spans.now clock ≡ not result.free }
     ensures steady { (t : ℕ) → clock ≤ t → t < result.until → busy_in spans.now t ≡ not result.free }
+    ensures ahead { result.free ≡ false → clock < result.until }
 {
     match spans.iter().find(|span| span.covers(clock)) {
         Some(span) => Stretch {
@@ -100,7 +101,7 @@ impl Stalls {
 
     pub(crate) fn new(heap: Global, spans: &[Span]) -> Result<Stalls, Refusal>
         ensures { MatchResult result
-            (λ s. (bad_spans spans.now ≡ false) × (gaps_of s ≡ outside spans.now 0))
+            (λ s. (bad_spans spans.now ≡ false) × ((s.spans.items ≡ spans.now) × (s.count ≡ 0)))
             (λ why. why ≡ (if bad_spans spans.now then BadBus else OutOfMemory)) }
     {
         check_spans(spans)?;
@@ -109,7 +110,7 @@ impl Stalls {
 
     fn counted(spans: Vec<Span>) -> Stalls
         requires { bad_spans spans.items ≡ false }
-        ensures { gaps_of result ≡ outside spans.items 0 }
+        ensures { (result.spans.items ≡ spans.items) × (result.count ≡ 0) }
     {
         Stalls {
             spans,
@@ -119,6 +120,13 @@ impl Stalls {
                 until: 0,
             },
         }
+    }
+
+    fn pass(&mut self)
+        ensures same { (self.new.spans.items ≡ self.old.spans.items) × (self.new.stretch ≡ self.old.stretch) }
+        ensures count { self.new.count ≡ min (self.old.count + 1) 4294967295 }
+    {
+        self.count = self.count.saturating_add(1);
     }
 
     #[tactic(auto, using(crate::proofs::Scan::free_at_stop))]
@@ -143,8 +151,9 @@ impl Timing for Stalls {
         if self.count >= self.stretch.until {
             self.stretch = stretch_from(&self.spans, self.count);
         }
-        self.count = self.count.saturating_add(1);
-        self.stretch.free
+        let free = self.stretch.free;
+        self.pass();
+        free
     }
 
     fn wait(&mut self, clocks: u32) {

@@ -110,7 +110,8 @@ impl Cell {
         self.bits(scan, 0, false)
     }
 
-    // The same with a line count of its own.
+    // The same with a line count of its own. A part of both callers, since a call for each column would cost a quarter of the speed of play.
+    #[inline(always)]
     #[tactic(auto, unfolding(crate::specs::Picture::cell_word, crate::specs::Picture::look))]
     fn bits(self, scan: Scan, count: u8, here: bool) -> u32
         ensures word { count ≡ line_count (shape_of scan.composition) scan.line → result ≡ cell_word (shape_of scan.composition) scan.line scan.blink here self }

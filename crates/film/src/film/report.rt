@@ -5,6 +5,7 @@ ghost use Rattle.frame.specs.Ports.{status_byte};
 ghost use Rattle.console.specs.Model.{state_of};
 ghost use Rattle.layout.specs.Closing.{status_line};
 ghost use Rattle.listing.specs.Words.{word_lines};
+ghost use Rattle.sheet.specs.Screens.{Composed};
 ghost use Rattle.film.specs.FrameRows.{page_ends, row_answers, wanted_answers, word_of, late_row, first_late, fate_of, wanted, with_frame_row, frame_listing};
 
 use crate::film::Film;
@@ -120,7 +121,7 @@ impl Film {
 
     // A row is late if fewer bytes came than it takes, or the page lacks one of them.
     fn is_late(&self, page: &[u8], log: &Log, row: u8) -> bool
-        ensures { result ≡ late_row self.now.screen page.now log.now row }
+        ensures { Composed self.now.screen → result ≡ late_row self.now.screen page.now log.now row }
     {
         let came = log.row(row).bytes as usize;
         match self.screen.console.window(page, row) {
@@ -130,7 +131,7 @@ impl Film {
     }
 
     fn first_late(&self, page: &[u8], log: &Log) -> Option<u8>
-        ensures { result ≡ first_late self.now.screen page.now log.now }
+        ensures { Composed self.now.screen → result ≡ first_late self.now.screen page.now log.now }
     {
         (1..=self.screen.composition.rows).find(|row| self.is_late(page, log, *row))
     }
@@ -167,7 +168,7 @@ impl Film {
         only: Option<u8>,
         out: &mut Vec<u8>,
     ) -> Result<(), AllocError>
-        ensures { OnOk result (out.new.items ≡ frame_listing self.now page.now log.now only out.old.items) }
+        ensures { Composed self.now.screen → OnOk result (out.new.items ≡ frame_listing self.now page.now log.now only out.old.items) }
     {
         let late = self.first_late(page, log);
         for row in 1..=self.screen.composition.rows {

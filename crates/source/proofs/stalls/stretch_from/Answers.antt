@@ -23,4 +23,4 @@ returns-in-None c =
     c.filter-ahead.ensures.closure (λ x b q k. search (rules, tests))
     ) in
     let e = c.unwrap_or.ensures ∙ ap (λ o. unwrap_or o 4294967295) (sym (option_map_id c.min.result) ∙ least) in
-    record { now = now; steady = λ t a b. free_below_least xs clock 4294967295 t now a (rw e at b) }
+    record { now = now; steady = λ t a b. free_below_least xs clock 4294967295 t now a (rw e at b); ahead = λ q. cc q }

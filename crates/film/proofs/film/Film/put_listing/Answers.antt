@@ -17,7 +17,7 @@ loop-row-preserved c =
     ∙ ap (with_frame_rows c.args.self.now c.args.log.now c.first_late-late.result c.args.only (vec_items c.args.out.now)) (sym u)
 
 pub returns : goal.returns
-returns c =
+returns c = λ h.
     let n : vec_items c.loop-row-test.out ≡ with_frame_rows c.args.self.now c.args.log.now c.first_late-late.result c.args.only (vec_items c.args.out.now) c.args.self.now.screen.composition.rows =
     elim c.loop-row-test.branch [
       | else-loop-row-test w ↦ absurd (let b = c.args.self.now.screen.composition.rows_range in omega arith)
@@ -31,4 +31,4 @@ returns c =
           ∙ ap (with_frame_rows c.args.self.now c.args.log.now c.first_late-late.result c.args.only (vec_items c.args.out.now)) u)
     ] in
     frame_closed c.args.self.now c.args.page.now c.args.log.now c.first_late-late.result c.args.only (vec_items c.args.out.now) (vec_items c.loop-row-test.out)
-    (vec_items c.put_frame_total.new.out) c.status.result c.first_late-late.ensures c.status.ensures n c.in_ok-put_frame_total.ensures
+    (vec_items c.put_frame_total.new.out) c.status.result (c.first_late-late.ensures h) c.status.ensures n c.in_ok-put_frame_total.ensures

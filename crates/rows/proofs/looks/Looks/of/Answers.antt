@@ -1,5 +1,5 @@
 -- Each column is worked out by itself, and all are those of every line of the kind.
-use Rattle.std.proofs.Common.{◌≡◌, Some, sym, ◌∙◌, zero-add, rules}
+use Rattle.std.proofs.Common.{◌≡◌, Some, sym, ◌∙◌, rules}
 use Rattle.video.specs.Composition.{Shape, shape_of}
 use Rattle.video.specs.Picture.{scan_line, look}
 use Rattle.video.specs.declared.scan.ScanLine.{ScanLine}
@@ -15,5 +15,5 @@ returns-clause-drawn c =
     let sh : Shape = shape_of s.composition in
     λ d line k p b e.
     let kind : scan_line sh s.line s.blink ≡ scan_line d line k = sym c.kind.ensures ∙ e in
-    let made = made_by _ (λ f i. look (shape_of f.1.now.composition) f.1.now.line f.1.now.blink (column_cell (shown_of f.0.now) i)) _ c.from_fn.result 0 80 (λ f g i y t. search rules) c.from_fn.ensures.items.each p b in
-    (simp zero-add at made) ∙ look_same sh d s.line line s.blink k (column_cell (shown_of c.args.row.now) p) kind
+    let same = look_same sh d s.line line s.blink k (column_cell (shown_of c.args.row.now) p) kind in
+    made_by _ _ (λ i y. y ≡ look sh s.line s.blink (column_cell (shown_of c.args.row.now) i)) 0 c.from_fn.result 80 (λ q i y t. search rules) c.from_fn.ensures.items p b ∙ same

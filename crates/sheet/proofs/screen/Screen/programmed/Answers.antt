@@ -4,8 +4,10 @@ use Rattle.frame.specs.Ports.{State}
 use Rattle.sheet.proofs.Shapes.{programmed_shape}
 use Rattle.sheet.proofs.screen.Screen.programmed.Goals as goal
 
-pub invariant_of-result : goal.invariant_of-result
-invariant_of-result c =
+pub returns : goal.returns
+returns c =
     let k = c.in_ok-console.ensures in
-    let e = c.in_ok-composition.ensures.composed in
-    record { composed = ap (λ (s : State). s.shape) k ∙ (programmed_shape c.args.parameters c.args.cursor c.args.start e.0 ∙ ap (λ (x : Shape). Some x) (sym e.1)) }
+    let e = c.in_ok-composition.ensures.composed in (
+      ap (λ (s : State). s.shape) k ∙ (programmed_shape c.args.parameters c.args.cursor c.args.start e.0 ∙ ap (λ (x : Shape). Some x) (sym e.1)),
+      k,
+    )

@@ -3,7 +3,7 @@ use Rattle.sheet.proofs.Words.{still_is}
 use Rattle.sheet.proofs.still.Stills.words.Goals as goal
 
 pub returns : goal.returns
-returns c =
+returns c = λ h.
     let b = c.args.self.now.screen.now.composition.columns_range in
     still_is c.args.self.now.screen.now c.args.self.now.page.now c.args.row c.in_ok-still.still.len _
-    c.still.new.out c.in_ok-still.still.items (omega arith) c.args.self.now.screen.now.composed (search rules) c.as_mut_slice.ensures.len (search rules)
+    c.still.new.out c.in_ok-still.still.items (omega arith) h (search rules) c.as_mut_slice.ensures.len (search rules)
