@@ -1,11 +1,11 @@
 -- Rows of a page, by row buffers.
-use Rattle.std.proofs.Common.{◌≡◌, ℕ, suc, ◌+◌, ◌-◌, ◌<◌, ◌≤◌, Bool, false, List, length, take, drop, Some, None, sym, ap, ◌∙◌, subst, add-one, arith, length-drop}
+use Rattle.std.proofs.Common.{◌≡◌, ℕ, suc, ◌+◌, ◌-◌, ◌<◌, ◌≤◌, Bool, false, List, length, take, drop, Option, Some, None, option_map, sym, ap, ◌∙◌, subst, add-one, arith, length-drop}
 use Rattle.std.proofs.lemmas.List.{take_all}
 use Rattle.video.specs.Composition.{Shape}
 use Rattle.rows.specs.declared.found.Found.{Found}
 use Rattle.rows.specs.declared.state.RowBuffer.{RowBuffer}
 use Rattle.rows.specs.Buffer.{Shown, Buffer, fresh, reads}
-use Rattle.rows.specs.Model.{buffer_of, shown_of, read_of}
+use Rattle.rows.specs.Model.{bytes, buffer_of, shown_of, read_of}
 use Rattle.rows.specs.Page.{blank, row}
 use Rattle.rows.specs.Stands.{Behind, Next}
 use Rattle.rows.proofs.Chain.{row_step, row_short, never_whole}
@@ -27,12 +27,10 @@ module _ (c : Shape) (n : ℕ) (page : List ℕ) (j at : ℕ) (idle : Bool) (a :
   begun : reads c.f n (fresh c.h idle a.row.take.over (shown_of a.row.show)) (drop at page) ≡ reads c.f n (buffer_of s) part
   begun = rw (b.buffer, b.rest)
 
-  pub next_none : None ≡ reads c.f n (buffer_of s) part → Next c n page j None
-  next_none q = row_short c n page j at idle a.row.take.over (shown_of a.row.show) stands idle_is (begun ∙ sym q)
-
-  pub next_some : (x : RowBuffer) → read_of (Some x) part ≡ reads c.f n (buffer_of s) part → x.take.taken ≤ length part → at ≤ length page
-      → Next c n page j (Some (record { place = at; row = x }))
-  next_some x q fits l =
+  pub next_read : {T : Type 0} (fed : Option T) (x : RowBuffer) → read_of (option_map (λ _. x) fed) part ≡ reads c.f n (buffer_of s) part → bytes (option_map (λ _. x) fed) ≤ length part → at ≤ length page
+      → Next c n page j (option_map (λ _. record { place = at; row = x }) fed)
+  next_read None x q fits l = row_short c n page j at idle a.row.take.over (shown_of a.row.show) stands idle_is (begun ∙ sym q)
+  next_read (Some u) x q fits l =
       let g = row_step c n page j at idle a.row.take.over (shown_of a.row.show) (record { taken = x.take.taken; over = x.take.over; show = shown_of x.show; left = drop x.take.taken part }) stands idle_is (begun ∙ sym q) in
       let d = length-drop at page in
       let p = ap length b.rest in

@@ -1,5 +1,5 @@
 // A row buffer, fed a byte at a time.
-ghost use Rattle.std.specs.Prelude.{◌≡◌, ℕ, ◌≤◌, Bool, true, false, length, if◌then◌else◌};
+ghost use Rattle.std.specs.Prelude.{◌≡◌, ℕ, ◌≤◌, Bool, true, false, length, option_map, if◌then◌else◌};
 ghost use Rattle.rows.specs.Takes.{burst_bytes};
 ghost use Rattle.rows.specs.Buffer.{full, eat, top, fresh, reads};
 ghost use Rattle.rows.specs.Model.{bytes, shown_of, buffer_of, read_of};
@@ -31,21 +31,19 @@ impl RowBuffer {
     pub fn fresh(composition: &Composition, idle: bool, above: &RowBuffer) -> RowBuffer
         ensures { buffer_of result ≡ fresh composition.now.columns idle above.now.take.over (shown_of above.now.show) }
     {
-        let over = above.take.over;
-        let phase = if idle | over {
-            Phase::Done
-        } else {
-            Phase::Ready
-        };
         RowBuffer {
-            take: Taking {
-                phase,
-                room: composition.columns,
-                taken: 0,
-                over,
-            },
+            take: Taking::new(composition, idle, above.take.over),
             show: Showing::new(above.show.field, above.show.below),
         }
+    }
+
+    // The same in place, without a copy, where the row above is no longer needed.
+    #[tactic(auto, unfolding(crate::specs::Buffer::fresh))]
+    pub(crate) fn renew(&mut self, composition: &Composition, idle: bool)
+        ensures { buffer_of self.new ≡ fresh composition.now.columns idle self.old.take.over (shown_of self.old.show) }
+    {
+        self.show.renew();
+        self.take = Taking::new(composition, idle, self.take.over);
     }
 
     pub fn full(&self) -> bool
@@ -74,23 +72,17 @@ impl RowBuffer {
     }
 }
 
-// A row fed from a part of the page until it is full; none where the bytes do not suffice.
-pub(crate) fn fill(
-    start: RowBuffer,
-    opaque: bool,
-    burst: BurstSize,
-    part: &[u8],
-) -> Option<RowBuffer>
-    requires { start.take.taken ≡ 0 }
-    ensures row { read_of result part.now ≡ reads opaque (burst_bytes burst) (buffer_of start) part.now }
-    ensures fits { bytes result ≤ length part.now }
+// Feeds a row from a part of the page until it is full; where the bytes do not suffice, none, and the row is left half read.
+pub(crate) fn fill(row: &mut RowBuffer, opaque: bool, burst: BurstSize, part: &[u8]) -> Option<()>
+    requires { row.old.take.taken ≡ 0 }
+    ensures row { read_of (option_map (λ _. row.new) result) part.now ≡ reads opaque (burst_bytes burst) (buffer_of row.old) part.now }
+    ensures fits { bytes (option_map (λ _. row.new) result) ≤ length part.now }
 {
-    let mut row = start;
     for b in part {
         if row.full() {
-            return Some(row);
+            return Some(());
         }
         row.eat(opaque, burst, *b);
     }
-    if row.full() { Some(row) } else { None }
+    if row.full() { Some(()) } else { None }
 }

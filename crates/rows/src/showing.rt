@@ -59,6 +59,18 @@ impl Showing {
         }
     }
 
+    // The row below, which shows nothing yet; what the columns behind `len` hold counts for nothing.
+    pub(crate) fn renew(&mut self)
+        ensures state { shown_of self.new ≡ empty_row self.old.field self.old.below }
+        ensures len { self.new.len ≡ 0 }
+    {
+        self.len = 0;
+        self.ring = [0; 16];
+        self.pairs = 0;
+        self.ended = false;
+        self.hidden = self.below;
+    }
+
     // One position more.
     pub(crate) fn put(&mut self, p: Position)
         requires { self.old.len < 80 }

@@ -1,13 +1,14 @@
 // What a row takes, byte by byte.
 ghost use Rattle.std.specs.Prelude.{◌≡◌, ℕ, ◌+◌, ◌≤◌, true, false, length};
 ghost use Rattle.rows.specs.Positions.{read};
-ghost use Rattle.rows.specs.Buffer.{full, phase_after, fills, took};
+ghost use Rattle.rows.specs.Buffer.{full, phase_after, fills, took, nothing, fresh};
 ghost use Rattle.rows.specs.Takes.{burst_bytes};
 ghost use Rattle.rows.specs.Model.{taken_of, listed};
 
 use crate::burst::BurstSize;
 use crate::kinds::{Phase, Position, Special};
 use crate::state::Taking;
+use video::composition::Composition;
 use video::field::Field;
 
 // A byte that fills a position alone; no `From`, since a transparent field code does not.
@@ -53,6 +54,24 @@ fn filled(opaque: bool, phase: Phase, b: u8) -> Option<Position>
 }
 
 impl Taking {
+    // A row that took nothing yet, below an F3 or not; an idle row takes nothing.
+    #[tactic(auto, unfolding(crate::specs::Buffer::fresh))]
+    pub(crate) fn new(composition: &Composition, idle: bool, over: bool) -> Taking
+        ensures { taken_of result ≡ (fresh composition.now.columns idle over nothing).take }
+    {
+        let phase = if idle | over {
+            Phase::Done
+        } else {
+            Phase::Ready
+        };
+        Taking {
+            phase,
+            room: composition.columns,
+            taken: 0,
+            over,
+        }
+    }
+
     #[tactic(auto, unfolding(crate::specs::Buffer::full))]
     pub fn full(&self) -> bool
         ensures { result ≡ full (taken_of self.now) }

@@ -1,5 +1,5 @@
 // The rows of a page, one below another.
-ghost use Rattle.std.specs.Prelude.{ℕ, ◌+◌, ◌-◌, ◌<◌, ◌≤◌, length};
+ghost use Rattle.std.specs.Prelude.{ℕ, ◌+◌, ◌-◌, ◌<◌, ◌≤◌, length, option_map};
 ghost use Rattle.video.specs.Composition.{shape_of};
 ghost use Rattle.rows.specs.Takes.{burst_bytes};
 ghost use Rattle.rows.specs.Stands.{Behind, Next, Located};
@@ -11,23 +11,22 @@ use crate::reader::PageReader;
 use crate::state::RowBuffer;
 
 impl PageReader<'_> {
-    // The row below row number `above`, which was read.
-    fn next_row(&self, above: u8, found: &Found) -> Option<Found>
+    // From row number `above`, which was read, to the row below it; where the page does not suffice, none, and `found` is left half read.
+    fn next_row(&self, above: u8, found: &mut Found) -> Option<()>
         requires number { above < 255 }
-        requires within { found.now.place + found.now.row.take.taken ≤ length self.now.page.now }
-        ensures { Behind (shape_of self.now.composition) (burst_bytes self.now.burst) self.now.page.now above (found.now.place + found.now.row.take.taken) found.now.row
-            → Next (shape_of self.now.composition) (burst_bytes self.now.burst) self.now.page.now above result }
+        requires within { found.old.place + found.old.row.take.taken ≤ length self.now.page.now }
+        ensures { Behind (shape_of self.now.composition) (burst_bytes self.now.burst) self.now.page.now above (found.old.place + found.old.row.take.taken) found.old.row
+            → Next (shape_of self.now.composition) (burst_bytes self.now.burst) self.now.page.now above (option_map (λ _. found.new) result) }
     {
-        let place = found.end();
+        found.place = found.end();
         let idle = blank(&self.composition, above + 1);
-        let start = RowBuffer::fresh(&self.composition, idle, &found.row);
-        let row = fill(
-            start,
+        found.row.renew(&self.composition, idle);
+        fill(
+            &mut found.row,
             self.composition.opaque,
             self.burst,
-            &self.page[place..],
-        )?;
-        Some(Found { place, row })
+            &self.page[found.place..],
+        )
     }
 
     // A row, read with all rows above it; none where the page does not suffice.
@@ -40,7 +39,7 @@ impl PageReader<'_> {
             row: RowBuffer::top(),
         };
         for above in 0..row {
-            found = self.next_row(above, &found)?;
+            self.next_row(above, &mut found)?;
         }
         Some(found)
     }

@@ -15,15 +15,15 @@ loop-above-init c =
     let over : c.top.result.take.over ≡ false = ap (λ (x : Buffer). x.take.over) e in
     (rw (taken, over) (at_top (shape_of s.composition) (burst_bytes s.burst) s.page.now (shown_of c.top.result.show) (ap (λ (x : Buffer). x.show.field) e) (ap (λ (x : Buffer). x.show.below) e)), omega arith, λ j z. absurd (omega arith))
 
-pub returns-in_err-found : goal.returns-in_err-found
-returns-in_err-found c =
+pub returns-in_err-next_row : goal.returns-in_err-next_row
+returns-in_err-next_row c =
     let s = c.args.self.now in
     let r = c.requires in
-    rw c.from_residual.ensures (ends_early (shape_of s.composition) (burst_bytes s.burst) s.page.now c.loop-above.above (c.args.row - 1) (omega arith) (c.in_err-found.ensures c.loop-above.invariant.0))
+    rw c.from_residual.ensures (ends_early (shape_of s.composition) (burst_bytes s.burst) s.page.now c.loop-above.above (c.args.row - 1) (omega arith) (c.in_err-next_row.ensures c.loop-above.invariant.0))
 
 pub loop-above-preserved : goal.loop-above-preserved
 loop-above-preserved c =
-    let g = c.in_ok-found.ensures c.loop-above.invariant.0 in
+    let g = c.in_ok-next_row.ensures c.loop-above.invariant.0 in
     (rw add-one g.0, g.1.within, λ j z. let e : j ≡ c.loop-above.above = omega arith in rw e g.1)
 
 pub returns : goal.returns
